@@ -1,0 +1,192 @@
+-- Document 01's rules in the order in which check tries them: 14, 1 to 6, then the records by number and within one 7 to 10,
+-- then 11, 12. The first that is broken is the answer. Sums and products are over whole numbers.
+--   checked     what check answers of a table and a list of bytes
+--   checkOf     the same in document 01's numbers
+-- Assumes nothing: these are definitions.
+use Prim.Native.Nat.{ℕ, zero, suc, _+_, _-_, _*_, _%_, max}
+use mathlib.Core.Bool.{Bool, true, cond, _&&_, _||_}
+use mathlib.Core.List.{List, [], _∷_}
+use lib.Dec.{leb, eqb}
+use lib.ListN.{length, take, drop}
+use Rattle.crc64.specs.Crc.{crc}
+use Rattle.rules.specs.declared.Refusal.the-variants.{
+  Size,
+  Magic,
+  Version,
+  Header as HeaderWrong,
+  Layout,
+  Checksum,
+  Record as RecordWrong,
+  Digest,
+  Extents,
+  Total,
+  Visibility,
+}
+use Rattle.rules.specs.declared.Verdict.{Verdict}
+use Rattle.rules.specs.declared.Verdict.the-variants.{Accepted}
+use Rattle.rules.specs.Rules.{must, _then_, firstOver}
+use Rattle.rules.specs.Answers.{Answer, checkAnswer}
+use Rattle.segment.specs.declared.header.Header.{Header}
+use Rattle.segment.specs.declared.record.Record.{Record}
+use Rattle.segment.specs.declared.extent.Extent.{Extent}
+use Rattle.segment.specs.Format.{
+  Shape,
+  v3,
+  headerSize,
+  extentSize,
+  footerSize,
+  leastFile,
+  fileLimit,
+  recordLimit,
+  blockEnd,
+  headerOf,
+  footerOf,
+  recordCount,
+  recordsOffset,
+  bloomOffset,
+  bloomSize,
+  digestsOffset,
+  digestsSize,
+  extentsOffset,
+  extentCount,
+  recordNo,
+  extentsIn,
+}
+use Rattle.segment.specs.Table.{tableVerdict, allows}
+use Rattle.segment.specs.Keys.{keyOf, freshKey}
+
+-- 1: shorter than 136 or longer than the limit
+unfoldable pub sizeVerdict : ℕ → Verdict
+sizeVerdict n = must (leb leastFile n) Size then must (leb n fileLimit) Size
+
+-- 2, 3, and 4: header size, federation version, reserved or flags wrong, or visibility above 1
+unfoldable pub headVerdict : Shape → Header → Verdict
+headVerdict sh h =
+    must (eqb (h .magic) (sh .magic)) Magic
+    then must (eqb (h .version) (sh .version)) Version
+    then must (eqb (h .«header_size») headerSize) HeaderWrong
+    then must (eqb (h .federation) 0) HeaderWrong
+    then must (eqb (h .reserved) 0) HeaderWrong
+    then must (eqb (h .flags) 0) HeaderWrong
+    then must (leb (h .visibility) 1) HeaderWrong
+
+-- where the bloom bytes of a size begin: 0 if there are none, else 112
+abbrev pub bloomPlace : ℕ → ℕ
+bloomPlace size = cond (eqb size 0) 0 headerSize
+
+-- 5: the layout rules of a header over a file of n bytes, and at most 65,536 records
+unfoldable pub layoutVerdict : Shape → Header → ℕ → Verdict
+layoutVerdict sh h n =
+    must (eqb (bloomOffset h) (bloomPlace (bloomSize h))) Layout
+    then must (eqb (bloomSize h % 8) 0) Layout
+    then must (leb (recordCount h) recordLimit) Layout
+    then must (eqb (recordsOffset h) (headerSize + bloomSize h)) Layout
+    then must (eqb (digestsOffset h) (recordsOffset h + sh .recordSize * recordCount h)) Layout
+    then must (eqb (digestsSize h % 8) 0) Layout
+    then must (eqb (extentsOffset h) (digestsOffset h + digestsSize h)) Layout
+    then must (eqb n (extentsOffset h + extentSize * extentCount h + footerSize)) Layout
+
+-- 6: the checksum covers every byte before the footer
+unfoldable pub checksumVerdict : List ℕ → Verdict
+checksumVerdict s =
+    must (eqb (footerOf s (length s - footerSize) .checksum) (crc (take (length s - footerSize) s))) Checksum
+
+-- 7: reserved, flags, marks, visibility, source or domain wrong
+unfoldable pub marksVerdict : Header → Record → ℕ → Verdict
+marksVerdict h r k =
+    must (eqb (r .reserved) 0) (RecordWrong k)
+    then must (eqb (r .«reserved_last») 0) (RecordWrong k)
+    then must (leb (r .flags) 1) (RecordWrong k)
+    then must (leb (r .visibility) 1) (RecordWrong k)
+    then must (leb (r .imported) 1) (RecordWrong k)
+    then must (eqb (r .imported) 1 || eqb (r .source) 0) (RecordWrong k)
+    then must (eqb (r .domain) (h .domain)) (RecordWrong k)
+
+-- 8: unknown hash id, wrong length, or outside its section
+unfoldable pub digestVerdict : List ℕ → Header → Record → ℕ → Verdict
+digestVerdict pairs h r k =
+    must (allows pairs (r .«hash_id») (r .«digest_length»)) (Digest k)
+    then must (leb (digestsOffset h) (r .«digest_offset» .0)) (Digest k)
+    then must (leb (r .«digest_offset» .0 + r .«digest_length») (digestsOffset h + digestsSize h)) (Digest k)
+
+abbrev pub isGone : Record → Bool
+isGone r = eqb (r .flags) 1
+
+-- 9: gone with extents offset or count not 0; not gone with none; or misplaced
+unfoldable pub extentsVerdict : Header → Record → ℕ → Verdict
+extentsVerdict h r k =
+    cond (isGone r)
+    (must (eqb (r .«extents_offset» .0) 0) (Extents k) then must (eqb (r .«extent_count») 0) (Extents k))
+    (must (leb 1 (r .«extent_count»)) (Extents k)
+    then must (leb (extentsOffset h) (r .«extents_offset» .0)) (Extents k)
+    then must (eqb ((r .«extents_offset» .0 - extentsOffset h) % extentSize) 0) (Extents k)
+    then must (leb (r .«extents_offset» .0 + extentSize * r .«extent_count») (extentsOffset h + extentSize * extentCount h)) (Extents k))
+
+-- an extent's offset + length is at most 4,294,967,296
+abbrev pub extentFits : Extent → Bool
+extentFits e = leb (e .offset .0 + e .length) blockEnd
+
+unfoldable pub allFit : List Extent → Bool
+allFit [] = true
+allFit (e ∷ es) = extentFits e && allFit es
+
+unfoldable pub sumLengths : List Extent → ℕ
+sumLengths [] = 0
+sumLengths (e ∷ es) = e .length + sumLengths es
+
+-- 10: an extent passes 2^32, the sum differs or passes the limit, or gone with total not 0
+unfoldable pub totalVerdict : Shape → List ℕ → Record → ℕ → Verdict
+totalVerdict sh s r k =
+    cond (isGone r)
+    (must (eqb (r .«total_length») 0) (Total k))
+    (must (allFit (extentsIn s r)) (Total k)
+    then must (leb (sumLengths (extentsIn s r)) (sh .totalLimit)) (Total k)
+    then must (eqb (sumLengths (extentsIn s r)) (r .«total_length»)) (Total k))
+
+-- one record, which is number k
+unfoldable pub recordRules : Shape → List ℕ → List ℕ → Header → Record → ℕ → Verdict
+recordRules sh pairs s h r k =
+    marksVerdict h r k then digestVerdict pairs h r k then extentsVerdict h r k then totalVerdict sh s r k
+
+unfoldable pub recordVerdict : Shape → List ℕ → List ℕ → Header → ℕ → Verdict
+recordVerdict sh pairs s h k = recordRules sh pairs s h (recordNo sh s h k) k
+
+-- the visibility of record k
+unfoldable pub visibilityNo : Shape → List ℕ → Header → ℕ → ℕ
+visibilityNo sh s h k = recordNo sh s h k .visibility
+
+-- the largest of f 0, f 1, .. below n, and 0 if there is none
+unfoldable pub largestBelow : ℕ → (ℕ → ℕ) → ℕ
+largestBelow zero f = 0
+largestBelow (suc n) f = max (largestBelow n f) (f n)
+
+-- 11: the header's visibility is the largest of the records', gone ones included
+unfoldable pub visibilityVerdict : Shape → List ℕ → Header → Verdict
+visibilityVerdict sh s h = must (eqb (h .visibility) (largestBelow (recordCount h) (visibilityNo sh s h))) Visibility
+
+-- the digest of a record, and the key of record k
+unfoldable pub digestIn : List ℕ → Record → List ℕ
+digestIn s r = take (r .«digest_length») (drop (r .«digest_offset» .0) s)
+
+unfoldable pub keyNo : Shape → List ℕ → Header → ℕ → List ℕ
+keyNo sh s h k = keyOf (recordNo sh s h k .«hash_id») (digestIn s (recordNo sh s h k))
+
+-- everything after 14 and 1, of a segment whose header is h
+unfoldable pub segmentRules : Shape → List ℕ → List ℕ → Header → Verdict
+segmentRules sh pairs s h =
+    headVerdict sh h
+    then layoutVerdict sh h (length s)
+    then checksumVerdict s
+    then firstOver (recordCount h) (recordVerdict sh pairs s h)
+    then visibilityVerdict sh s h
+    then firstOver (recordCount h) (freshKey (keyNo sh s h))
+
+-- 1 to 12
+unfoldable pub segmentVerdict : Shape → List ℕ → List ℕ → Verdict
+segmentVerdict sh pairs s = sizeVerdict (length s) then segmentRules sh pairs s (headerOf s)
+
+unfoldable pub checked : List ℕ → List ℕ → Verdict
+checked pairs s = tableVerdict pairs then segmentVerdict v3 pairs s
+
+unfoldable pub checkOf : List ℕ → List ℕ → Answer
+checkOf pairs s = checkAnswer (checked pairs s)

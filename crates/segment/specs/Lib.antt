@@ -1,0 +1,11 @@
+pub mod Format
+pub mod Table
+pub mod Keys
+pub mod Check
+pub mod Meets
+pub mod Meaning
+pub mod Tidy
+pub mod LookUp
+pub mod Walk
+pub mod Write
+pub mod Listing

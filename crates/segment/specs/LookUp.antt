@@ -1,0 +1,67 @@
+-- Document 01, look up: 14, then 17, then as check; on an accepted segment absent; gone, with visibility, domain and source; or present,
+-- with these, the total length and the part of the lent segment that holds its extents.
+--   foundOver     the first of 0, 1, .. below n that is not absent
+--   lookedUp      what look up answers
+--   lookUpOf      the same in document 01's numbers
+--   extentsPart   the part of the segment that an answer speaks of
+-- Assumes nothing: these are definitions.
+use Prim.Native.Nat.{ℕ, zero, suc, _*_}
+use mathlib.Core.Bool.{cond}
+use mathlib.Core.List.{List, []}
+use lib.ListN.{length, take, drop}
+use Rattle.rules.specs.declared.Refusal.the-variants.{Key}
+use Rattle.rules.specs.declared.Verdict.{Verdict}
+use Rattle.rules.specs.declared.Found.{Found}
+use Rattle.rules.specs.declared.Found.the-variants.{Absent, Gone, Present, Refused}
+use Rattle.rules.specs.Rules.{must, _then_, after}
+use Rattle.rules.specs.Answers.{Answer, foundAnswer}
+use Rattle.segment.specs.declared.header.Header.{Header}
+use Rattle.segment.specs.declared.record.Record.{Record}
+use Rattle.segment.specs.Format.{Shape, v3, extentSize, headerOf, recordCount, recordNo}
+use Rattle.segment.specs.Table.{tableVerdict, allows}
+use Rattle.segment.specs.Keys.{keyOf, eqList}
+use Rattle.segment.specs.Check.{isGone, keyNo, segmentVerdict}
+use Rattle.segment.specs.Meaning.{sourceOf}
+
+-- 17: hash id unknown or length not the table's
+unfoldable pub keyVerdict : List ℕ → ℕ → List ℕ → Verdict
+keyVerdict pairs hash digest = must (allows pairs hash (length digest)) Key
+
+-- what is said of a record
+unfoldable pub recordFound : Record → Found
+recordFound r =
+    cond (isGone r)
+    (Gone (r .visibility) (r .domain) (sourceOf (r .imported) (r .source)))
+    (Present (r .visibility) (r .domain) (sourceOf (r .imported) (r .source)) (r .«total_length») (r .«extents_offset» .0) (r .«extent_count»))
+
+infixr 40 _orElse_
+abbrev pub _orElse_ : Found → Found → Found
+Absent orElse g = g
+Gone v d s orElse g = Gone v d s
+Present v d s t a n orElse g = Present v d s t a n
+Refused r orElse g = Refused r
+
+unfoldable pub foundOver : ℕ → (ℕ → Found) → Found
+foundOver zero f = Absent
+foundOver (suc n) f = foundOver n f orElse f n
+
+-- record k, if it has the key
+unfoldable pub foundNo : Shape → List ℕ → Header → List ℕ → ℕ → Found
+foundNo sh s h key k = cond (eqList (keyNo sh s h k) key) (recordFound (recordNo sh s h k)) Absent
+
+unfoldable pub foundIn : Shape → List ℕ → Header → List ℕ → Found
+foundIn sh s h key = foundOver (recordCount h) (foundNo sh s h key)
+
+unfoldable pub lookedUp : List ℕ → List ℕ → ℕ → List ℕ → Found
+lookedUp pairs s hash digest =
+    after Refused (tableVerdict pairs then keyVerdict pairs hash digest then segmentVerdict v3 pairs s)
+    (foundIn v3 s (headerOf s) (keyOf hash digest))
+
+unfoldable pub lookUpOf : List ℕ → List ℕ → ℕ → List ℕ → Answer
+lookUpOf pairs s hash digest = foundAnswer (lookedUp pairs s hash digest)
+
+unfoldable pub extentsPart : Found → List ℕ → List ℕ
+extentsPart Absent s = []
+extentsPart (Gone v d src) s = []
+extentsPart (Present v d src t at n) s = take (extentSize * n) (drop at s)
+extentsPart (Refused r) s = []

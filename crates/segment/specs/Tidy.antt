@@ -1,0 +1,208 @@
+-- Document 01, "tidy form": records ascend by key; digests are packed in record order, then zeros up to a multiple of 8; extents
+-- are packed in record order with none shared or unused. It is a function on the meaning, section by section.
+--   Field, packed     a number and its width in bytes; the bytes of a list of them
+--   formOf            the segment of rows in the order in which they stand
+--   tidyForm          the tidy form of a meaning
+--   tidied, tidyOf    what tidy answers, and what it leaves in the output
+-- Assumes nothing: these are definitions.
+use Prim.Native.Nat.{ℕ, zero, suc, _+_, _-_, _*_, _%_, max}
+use mathlib.Core.Bool.{Bool, cond}
+use mathlib.Core.List.{List, [], _∷_, _++_}
+use lib.Dec.{leb, eqb}
+use lib.ListN.{length, drop, replicate}
+use Rattle.numbers.specs.Numbers.{bytesOf}
+use Rattle.crc64.specs.Crc.{crc}
+use Rattle.rules.specs.declared.Refusal.the-variants.{Room, Large}
+use Rattle.rules.specs.declared.Source.{Source}
+use Rattle.rules.specs.declared.Source.the-variants.{None, Domain}
+use Rattle.rules.specs.declared.Verdict.{Verdict}
+use Rattle.rules.specs.declared.Written.{Written}
+use Rattle.rules.specs.declared.Written.the-variants.{Done, Refused}
+use Rattle.rules.specs.Rules.{must, _then_, after}
+use Rattle.rules.specs.Answers.{Answer, writtenAnswer}
+use Rattle.segment.specs.declared.header.Header.{Header}
+use Rattle.segment.specs.declared.header.Heading.{Heading}
+use Rattle.segment.specs.declared.extent.Extent.{Extent}
+use Rattle.segment.specs.Format.{Shape, v3, headerSize, extentSize, footerSize, fileLimit, inFile}
+use Rattle.segment.specs.Keys.{lexLeq, sortBy}
+use Rattle.segment.specs.Check.{sumLengths, bloomPlace, checked}
+use Rattle.segment.specs.Meaning.{State, gone, live, Row, rowKey, rowExtents, Meaning, meaningOf}
+
+-- ---- fields
+
+pub record Field : Type 0 where
+  pub width : ℕ
+  pub value : ℕ
+
+abbrev pub u8 : ℕ → Field
+u8 v = record { width = 1; value = v }
+
+abbrev pub u16 : ℕ → Field
+u16 v = record { width = 2; value = v }
+
+abbrev pub u32 : ℕ → Field
+u32 v = record { width = 4; value = v }
+
+abbrev pub u64 : ℕ → Field
+u64 v = record { width = 8; value = v }
+
+unfoldable pub packed : List Field → List ℕ
+packed [] = []
+packed (f ∷ fs) = bytesOf (f .width) (f .value) ++ packed fs
+
+-- ---- the four structures
+
+unfoldable pub headerFields : Header → List Field
+headerFields h =
+    u64 (h .magic) ∷ u16 (h .version) ∷ u16 (h .shard) ∷ u32 (h .«header_size») ∷ u64 (h .«snapshot_min») ∷ u64 (h .«snapshot_max»)
+    ∷ u64 (h .«record_count») ∷ u64 (h .«records_offset» .0) ∷ u64 (h .«bloom_offset» .0) ∷ u64 (h .«bloom_size»)
+    ∷ u64 (h .«digests_offset» .0) ∷ u64 (h .«digests_size») ∷ u64 (h .«extents_offset» .0) ∷ u64 (h .«extent_count»)
+    ∷ u32 (h .domain) ∷ u8 (h .visibility) ∷ u8 (h .federation) ∷ u16 (h .reserved) ∷ u64 (h .flags) ∷ []
+
+unfoldable pub extentFields : Extent → List Field
+extentFields e = u64 (e .block) ∷ u32 (e .offset .0) ∷ u32 (e .length) ∷ []
+
+-- a record's total stands at byte 28 in version 3; a version that has it elsewhere has zeros there, and the total at the end
+abbrev pub totalHere : Shape → ℕ → ℕ
+totalHere sh total = cond (eqb (sh .totalAt) 28) total 0
+
+abbrev pub totalAfter : Shape → ℕ → List Field
+totalAfter sh total = cond (eqb (sh .totalAt) 28) [] (record { width = sh .totalWidth; value = total } ∷ [])
+
+abbrev pub importedOf : Source → ℕ
+importedOf None = 0
+importedOf (Domain d) = 1
+
+abbrev pub domainOf : Source → ℕ
+domainOf None = 0
+domainOf (Domain d) = d
+
+abbrev pub flagsOf : State → ℕ
+flagsOf gone = 1
+flagsOf (live es) = 0
+
+-- where a record's extents are said to lie: 0 if it is gone
+abbrev pub placeOf : State → ℕ → ℕ
+placeOf gone at = 0
+placeOf (live es) at = at
+
+-- a row whose digest lies at one place and whose extents at another
+unfoldable pub recordFields : Shape → ℕ → Row → ℕ → ℕ → List Field
+recordFields sh domain r digestAt extentsAt =
+    u32 (r .hashId) ∷ u16 (length (r .digest)) ∷ u16 0 ∷ u64 digestAt ∷ u64 (placeOf (r .state) extentsAt)
+    ∷ u32 (length (rowExtents r)) ∷ u32 (totalHere sh (sumLengths (rowExtents r))) ∷ u32 domain ∷ u8 (r .visibility)
+    ∷ u8 (importedOf (r .source)) ∷ u16 0 ∷ u32 (domainOf (r .source)) ∷ u32 (flagsOf (r .state)) ∷ totalAfter sh (sumLengths (rowExtents r))
+
+-- ---- the sections
+
+unfoldable pub recordsBytes : Shape → ℕ → List Row → ℕ → ℕ → List ℕ
+recordsBytes sh domain [] digestAt extentsAt = []
+recordsBytes sh domain (r ∷ rs) digestAt extentsAt =
+    packed (recordFields sh domain r digestAt extentsAt)
+    ++ recordsBytes sh domain rs (digestAt + length (r .digest)) (extentsAt + extentSize * length (rowExtents r))
+
+unfoldable pub digestBytes : List Row → List ℕ
+digestBytes [] = []
+digestBytes (r ∷ rs) = r .digest ++ digestBytes rs
+
+unfoldable pub extentListBytes : List Extent → List ℕ
+extentListBytes [] = []
+extentListBytes (e ∷ es) = packed (extentFields e) ++ extentListBytes es
+
+unfoldable pub extentBytes : List Row → List ℕ
+extentBytes [] = []
+extentBytes (r ∷ rs) = extentListBytes (rowExtents r) ++ extentBytes rs
+
+-- the bytes that a list's length lacks to a multiple of 8
+abbrev pub lacking : ℕ → ℕ
+lacking n = (8 - n % 8) % 8
+
+unfoldable pub digestSection : List Row → List ℕ
+digestSection rs = digestBytes rs ++ replicate (lacking (length (digestBytes rs))) 0
+
+-- ---- the whole
+
+unfoldable pub extentTotal : List Row → ℕ
+extentTotal [] = 0
+extentTotal (r ∷ rs) = length (rowExtents r) + extentTotal rs
+
+-- the largest visibility, gone ones included; 0 if there is none
+unfoldable pub largestVisibility : List Row → ℕ
+largestVisibility [] = 0
+largestVisibility (r ∷ rs) = max (r .visibility) (largestVisibility rs)
+
+unfoldable pub formHeader : Shape → Heading → ℕ → List Row → Header
+formHeader sh t bloom rs =
+    let records = headerSize + bloom in
+    let digests = records + sh .recordSize * length rs in
+    record {
+      magic = sh .magic;
+      version = sh .version;
+      shard = t .shard;
+      «header_size» = headerSize;
+      «snapshot_min» = t .«snapshot_min»;
+      «snapshot_max» = t .«snapshot_max»;
+      «record_count» = length rs;
+      «records_offset» = inFile records;
+      «bloom_offset» = inFile (bloomPlace bloom);
+      «bloom_size» = bloom;
+      «digests_offset» = inFile digests;
+      «digests_size» = length (digestSection rs);
+      «extents_offset» = inFile (digests + length (digestSection rs));
+      «extent_count» = extentTotal rs;
+      domain = t .domain;
+      visibility = largestVisibility rs;
+      federation = 0;
+      reserved = 0;
+      flags = 0;
+    }
+
+-- every byte before the footer
+unfoldable pub formBody : Shape → Heading → List ℕ → List Row → List ℕ
+formBody sh t bloom rs =
+    let h = formHeader sh t (length bloom) rs in
+    packed (headerFields h)
+    ++ (bloom
+    ++ (recordsBytes sh (t .domain) rs (h .«digests_offset» .0) (h .«extents_offset» .0) ++ (digestSection rs ++ extentBytes rs)))
+
+unfoldable pub formOf : Shape → Heading → List ℕ → List Row → List ℕ
+formOf sh t bloom rs =
+    let body = formBody sh t bloom rs in
+    body ++ packed (u64 (crc body) ∷ u64 (t .«seal_snapshot») ∷ u64 (t .«seal_time») ∷ [])
+
+abbrev pub rowLeq : Row → Row → Bool
+rowLeq a b = lexLeq (rowKey a) (rowKey b)
+
+unfoldable pub tidyForm : Shape → Meaning → List ℕ
+tidyForm sh m = formOf sh (m .heading) (m .bloom) (sortBy rowLeq (m .records))
+
+-- ---- what tidy answers
+
+-- 16: the result passes the limit; 13: the output is shorter than the result
+unfoldable pub roomVerdict : ℕ → ℕ → Verdict
+roomVerdict n room = must (leb n fileLimit) Large then must (leb n room) Room
+
+-- what stands in the output afterwards: the result and the bytes that stood after it, or what stood there before
+abbrev pub outputAfter : Written → List ℕ → List ℕ → List ℕ
+outputAfter (Done n) result out = result ++ drop n out
+outputAfter (Refused r) result out = out
+
+pub record Outcome : Type 0 where
+  pub answer : Answer
+  pub output : List ℕ
+
+abbrev pub outcome : Written → List ℕ → Outcome
+outcome w out = record { answer = writtenAnswer w; output = out }
+
+-- a result for an output of some room, where nothing before it is refused
+unfoldable pub settled : Verdict → List ℕ → ℕ → Written
+settled v result room = after Refused (v then roomVerdict (length result) room) (Done (length result))
+
+-- as check, then 16, 13
+unfoldable pub tidied : List ℕ → List ℕ → ℕ → Written
+tidied pairs s room = settled (checked pairs s) (tidyForm v3 (meaningOf v3 s)) room
+
+unfoldable pub tidyOf : List ℕ → List ℕ → List ℕ → Outcome
+tidyOf pairs s out =
+    let w = tidied pairs s (length out) in
+    outcome w (outputAfter w (tidyForm v3 (meaningOf v3 s)) out)

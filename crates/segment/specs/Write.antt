@@ -1,0 +1,168 @@
+-- Document 01, write: the meaning's header numbers, bloom bytes, entries, a run of digest bytes and a list of extents. Order: 14,
+-- 16 for the entry count, 5, then entries by number and within one 7, 15, 8, 9, 10; then 12, 16 for size, 13. A flat list's unfinished
+-- last item is not read. A lent number too wide for its field gives 7 in visibility, marks or source, 8 in hash id or digest length,
+-- 9 in extent count, 10 in an extent.
+--   Request           what write is lent besides the table and the output
+--   Entry, entryNo    nine numbers, and the k-th nine of a flat list
+--   wrote             what write answers
+--   writeOf           the same in document 01's numbers, and what it leaves in the output
+-- Assumes nothing: these are definitions.
+use Prim.Native.Nat.{ℕ, zero, suc, _+_, _*_, _/_, _%_}
+use mathlib.Core.Bool.{Bool, true, cond, _&&_, _||_}
+use mathlib.Core.List.{List, [], _∷_, map}
+use lib.Dec.{leb, ltb, eqb}
+use lib.ListN.{length, getD, take, drop}
+use Rattle.rules.specs.declared.Refusal.the-variants.{Layout, Record, Digest, Extents, Total, List as ListEnd, Large}
+use Rattle.rules.specs.declared.Verdict.{Verdict}
+use Rattle.rules.specs.declared.Written.{Written}
+use Rattle.rules.specs.Rules.{must, _then_, firstOver}
+use Rattle.segment.specs.declared.header.Heading.{Heading}
+use Rattle.segment.specs.declared.extent.Extent.{Extent}
+use Rattle.segment.specs.Format.{Shape, v3, recordLimit, blockEnd, inBlock}
+use Rattle.segment.specs.Table.{tableVerdict, allows}
+use Rattle.segment.specs.Keys.{keyOf, freshKey}
+use Rattle.segment.specs.Check.{extentFits, sumLengths}
+use Rattle.segment.specs.Meaning.{gone, live, Row, Meaning, sourceOf, countFrom}
+use Rattle.segment.specs.Tidy.{tidyForm, settled, outputAfter, Outcome, outcome}
+
+pub record Request : Type 0 where
+  pub heading : Heading
+  pub bloom : List ℕ
+  pub entries : List ℕ
+  pub digests : List ℕ
+  pub extents : List ℕ
+
+pub record Entry : Type 0 where
+  pub hashId : ℕ
+  pub digestStart : ℕ
+  pub digestLength : ℕ
+  pub visibility : ℕ
+  pub imported : ℕ
+  pub source : ℕ
+  pub gone : ℕ
+  pub firstExtent : ℕ
+  pub extentCount : ℕ
+
+-- whole items of a flat list, n numbers to an item
+abbrev pub entryCount : List ℕ → ℕ
+entryCount xs = length xs / 9
+
+abbrev pub listedExtents : List ℕ → ℕ
+listedExtents xs = length xs / 3
+
+unfoldable pub entryNo : List ℕ → ℕ → Entry
+entryNo xs k = record {
+  hashId = getD xs (9 * k) 0;
+  digestStart = getD xs (9 * k + 1) 0;
+  digestLength = getD xs (9 * k + 2) 0;
+  visibility = getD xs (9 * k + 3) 0;
+  imported = getD xs (9 * k + 4) 0;
+  source = getD xs (9 * k + 5) 0;
+  gone = getD xs (9 * k + 6) 0;
+  firstExtent = getD xs (9 * k + 7) 0;
+  extentCount = getD xs (9 * k + 8) 0;
+}
+
+unfoldable pub listedExtent : List ℕ → ℕ → Extent
+listedExtent xs j = record { block = getD xs (3 * j) 0; offset = inBlock (getD xs (3 * j + 1) 0); length = getD xs (3 * j + 2) 0 }
+
+-- n extents of a flat list, from the j-th on
+unfoldable pub extentsFrom : List ℕ → ℕ → ℕ → List Extent
+extentsFrom xs j zero = []
+extentsFrom xs j (suc n) = listedExtent xs j ∷ extentsFrom xs (suc j) n
+
+abbrev pub entryExtents : List ℕ → Entry → List Extent
+entryExtents xs e = extentsFrom xs (e .firstExtent) (e .extentCount)
+
+abbrev pub entryGone : Entry → Bool
+entryGone e = eqb (e .gone) 1
+
+-- 7: visibility, marks or source wrong, or too wide
+unfoldable pub entryMarks : Entry → ℕ → Verdict
+entryMarks e k =
+    must (leb (e .visibility) 1) (Record k)
+    then must (leb (e .imported) 1) (Record k)
+    then must (leb (e .gone) 1) (Record k)
+    then must (ltb (e .source) 4294967296) (Record k)
+    then must (eqb (e .imported) 1 || eqb (e .source) 0) (Record k)
+
+-- 15: start + count passes the end of the lent digests or extents
+unfoldable pub entryLists : Request → Entry → ℕ → Verdict
+entryLists q e k =
+    must (leb (e .digestStart + e .digestLength) (length (q .digests))) (ListEnd k)
+    then must (leb (e .firstExtent + e .extentCount) (listedExtents (q .extents))) (ListEnd k)
+
+-- 8: unknown hash id, or wrong length; one that is too wide is unknown, or wrong
+unfoldable pub entryDigest : List ℕ → Entry → ℕ → Verdict
+entryDigest pairs e k = must (allows pairs (e .hashId) (e .digestLength)) (Digest k)
+
+-- 9: gone with first extent or count not 0; not gone with none; or a count too wide
+unfoldable pub entryPlaces : Entry → ℕ → Verdict
+entryPlaces e k =
+    cond (entryGone e)
+    (must (eqb (e .firstExtent) 0) (Extents k) then must (eqb (e .extentCount) 0) (Extents k))
+    (must (leb 1 (e .extentCount)) (Extents k) then must (ltb (e .extentCount) 4294967296) (Extents k))
+
+-- an extent whose numbers fit their fields, and which lies inside its block
+abbrev pub listedFits : Extent → Bool
+listedFits e = ltb (e .offset .0) 4294967296 && (ltb (e .length) 4294967296 && extentFits e)
+
+unfoldable pub allListedFit : List Extent → Bool
+allListedFit [] = true
+allListedFit (e ∷ es) = listedFits e && allListedFit es
+
+-- 10: a number too wide in an extent, an extent passes 2^32, or the sum passes the limit
+unfoldable pub entryTotal : Shape → Request → Entry → ℕ → Verdict
+entryTotal sh q e k =
+    must (allListedFit (entryExtents (q .extents) e)) (Total k)
+    then must (leb (sumLengths (entryExtents (q .extents) e)) (sh .totalLimit)) (Total k)
+
+unfoldable pub entryRules : Shape → List ℕ → Request → Entry → ℕ → Verdict
+entryRules sh pairs q e k =
+    entryMarks e k then entryLists q e k then entryDigest pairs e k then entryPlaces e k then entryTotal sh q e k
+
+unfoldable pub entryVerdict : Shape → List ℕ → Request → ℕ → Verdict
+entryVerdict sh pairs q k = entryRules sh pairs q (entryNo (q .entries) k) k
+
+unfoldable pub entryDigestBytes : Request → Entry → List ℕ
+entryDigestBytes q e = take (e .digestLength) (drop (e .digestStart) (q .digests))
+
+unfoldable pub entryKey : Request → ℕ → List ℕ
+entryKey q k = keyOf (entryNo (q .entries) k .hashId) (entryDigestBytes q (entryNo (q .entries) k))
+
+-- the record that an entry asks for
+unfoldable pub entryRow : Request → ℕ → Row
+entryRow q k =
+    let e = entryNo (q .entries) k in
+    record {
+      hashId = e .hashId;
+      digest = entryDigestBytes q e;
+      visibility = e .visibility;
+      source = sourceOf (e .imported) (e .source);
+      state = cond (entryGone e) gone (live (entryExtents (q .extents) e));
+    }
+
+-- the meaning that is asked for
+unfoldable pub requested : Request → Meaning
+requested q = record {
+  heading = q .heading;
+  bloom = q .bloom;
+  records = map (entryRow q) (countFrom 0 (entryCount (q .entries)));
+}
+
+-- everything before the size
+unfoldable pub requestVerdict : Shape → List ℕ → Request → Verdict
+requestVerdict sh pairs q =
+    tableVerdict pairs
+    then must (leb (entryCount (q .entries)) recordLimit) Large
+    then must (eqb (length (q .bloom) % 8) 0) Layout
+    then firstOver (entryCount (q .entries)) (entryVerdict sh pairs q)
+    then firstOver (entryCount (q .entries)) (freshKey (entryKey q))
+
+unfoldable pub wrote : List ℕ → Request → ℕ → Written
+wrote pairs q room = settled (requestVerdict v3 pairs q) (tidyForm v3 (requested q)) room
+
+unfoldable pub writeOf : List ℕ → Request → List ℕ → Outcome
+writeOf pairs q out =
+    let w = wrote pairs q (length out) in
+    outcome w (outputAfter w (tidyForm v3 (requested q)) out)
