@@ -124,11 +124,12 @@ entryRules sh pairs q e k =
 unfoldable pub entryVerdict : Shape → List ℕ → Request → ℕ → Verdict
 entryVerdict sh pairs q k = entryRules sh pairs q (entryNo (q .entries) k) k
 
-unfoldable pub entryDigestBytes : Request → Entry → List ℕ
-entryDigestBytes q e = take (e .digestLength) (drop (e .digestStart) (q .digests))
+unfoldable pub entryDigestBytes : List ℕ → Entry → List ℕ
+entryDigestBytes digests e = take (e .digestLength) (drop (e .digestStart) digests)
 
-unfoldable pub entryKey : Request → ℕ → List ℕ
-entryKey q k = keyOf (entryNo (q .entries) k .hashId) (entryDigestBytes q (entryNo (q .entries) k))
+-- the key of entry k, of a list of entries over a run of digest bytes
+unfoldable pub entryKey : List ℕ → List ℕ → ℕ → List ℕ
+entryKey entries digests k = keyOf (entryNo entries k .hashId) (entryDigestBytes digests (entryNo entries k))
 
 -- the record that an entry asks for
 unfoldable pub entryRow : Request → ℕ → Row
@@ -136,7 +137,7 @@ entryRow q k =
     let e = entryNo (q .entries) k in
     record {
       hashId = e .hashId;
-      digest = entryDigestBytes q e;
+      digest = entryDigestBytes (q .digests) e;
       visibility = e .visibility;
       source = sourceOf (e .imported) (e .source);
       state = cond (entryGone e) gone (live (entryExtents (q .extents) e));
@@ -157,7 +158,7 @@ requestVerdict sh pairs q =
     then must (leb (entryCount (q .entries)) recordLimit) Large
     then must (eqb (length (q .bloom) % 8) 0) Layout
     then firstOver (entryCount (q .entries)) (entryVerdict sh pairs q)
-    then firstOver (entryCount (q .entries)) (freshKey (entryKey q))
+    then firstOver (entryCount (q .entries)) (freshKey (entryKey (q .entries) (q .digests)))
 
 unfoldable pub wrote : List ℕ → Request → ℕ → Written
 wrote pairs q room = settled (requestVerdict v3 pairs q) (tidyForm v3 (requested q)) room
