@@ -30,9 +30,12 @@ use Rattle.segment.specs.Check.{
   layoutVerdict,
   marksVerdict,
   digestVerdict,
+  goneExtents,
+  liveExtents,
   extentsVerdict,
   allFit,
   sumLengths,
+  liveTotal,
   totalVerdict,
   recordRules,
   digestIn,
@@ -166,7 +169,7 @@ totals e total =
 -- 7, 8 and 9 hold of the record, and 11 of the header
 one-rules : (pairs s : List ℕ) (t : Heading) (total : ℕ) (e : Extent) → Stored pairs → extentOf s 168 ≡ e
     → oneRules pairs s (headerWith t 1 160 8 168 1 0) (recordWith t 168 1 total 0 0) ≡ (totals e total then Accepted)
-unfolding oneRules recordRules marksVerdict digestVerdict extentsVerdict totalVerdict extentsAt totals
+unfolding oneRules recordRules marksVerdict digestVerdict liveExtents extentsVerdict liveTotal totalVerdict extentsAt totals
 one-rules pairs s t total e g f = rw (eq-eqb (t .domain) (t .domain) refl, g .seven, f)
 
 with-extent : (pairs s : List ℕ) (t : Heading) (total : ℕ) (e : Extent) → Stored pairs → OneExtent s t total e
@@ -219,7 +222,7 @@ alone pairs s t shown r g f h =
 
 live-rules : (pairs s : List ℕ) (t : Heading) (extentsAt total : ℕ) → Stored pairs
     → oneRules pairs s (headerWith t 1 160 8 168 0 0) (recordWith t extentsAt 0 total 0 0) ≡ Refused (Extents 0)
-unfolding oneRules recordRules marksVerdict digestVerdict extentsVerdict
+unfolding oneRules recordRules marksVerdict digestVerdict liveExtents extentsVerdict
 live-rules pairs s t extentsAt total g = rw (eq-eqb (t .domain) (t .domain) refl, g .seven)
 
 pub live-without : LiveWithout
@@ -228,7 +231,7 @@ live-without = λ pairs s t extentsAt total g f.
 
 gone-rules : (pairs s : List ℕ) (t : Heading) (shown : ℕ) → Stored pairs
     → oneRules pairs s (headerWith t 1 160 8 168 0 shown) (recordWith t 0 0 0 1 1) ≡ must (eqb shown 1) Visibility
-unfolding oneRules recordRules marksVerdict digestVerdict extentsVerdict totalVerdict
+unfolding oneRules recordRules marksVerdict digestVerdict goneExtents extentsVerdict totalVerdict
 gone-rules pairs s t shown g = rw (eq-eqb (t .domain) (t .domain) refl, g .seven)
 
 pub gone-shown : GoneShown

@@ -3,15 +3,17 @@
 -- Assumes nothing.
 use Prim.Native.Nat.{ℕ, suc, _+_, _-_, _≤_, _<_}
 use mathlib.Core.Path.{_≡_, refl, sym, ap, _∙_}
-use mathlib.Core.Bool.{Bool, true, false, _&&_}
+use mathlib.Core.Bool.{Bool, true, false, not, _&&_}
 use mathlib.Core.List.{List, [], _∷_, _++_}
 use native.Mathlib.Nat.{le-refl}
 use native.Mathlib.Numerals.{add-one}
 use native.Mathlib.Omega.{arith}
-use borrow.Author.Tests.{lt-ltb, le-ltb, le-leb, lt-leb, eq-eqb, ne-eqb, leb-true}
+use borrow.Author.Tests.{leb-true, not-true as flag-false, not-false as flag-true}
 use lib.Dec.{leb}
-use lib.ListN.{length, getD, take, drop, set, replicate, length-drop, drop-of-length-le}
-use lib.Seq.{drop-cons, take-all, take-suc, set-at, length-take-le, append-snoc}
+use lib.ListN.{length, getD, take, drop, set, replicate, length-append, length-drop, drop-of-length-le}
+use lib.Seq.{drop-cons, take-all, take-suc, set-at, take-at, length-take-le, append-snoc}
+use Rattle.rules.proofs.Order.{tests}
+use Rattle.segment.specs.declared.table.Tabled.{Tabled}
 use Rattle.segment.specs.Table.{stands, goodPairs, goodTable, allows, tabledOf}
 
 and-left : (a b : Bool) → (a && b) ≡ true → a ≡ true
@@ -21,8 +23,6 @@ and-left false b e = e
 and-right : (a b : Bool) → (a && b) ≡ true → b ≡ true
 and-right true b e = e
 and-right false b e = cc
-
-ruleset tests = (lt-ltb, le-ltb, le-leb, lt-leb, eq-eqb, ne-eqb)
 
 -- a loop over p has come to k, and f says of p what it says of the rest
 pub record Rest (f : List ℕ → Bool) (p : List ℕ) (k : ℕ) : Type 0 where
@@ -166,3 +166,30 @@ pub a-table : (p numbers : List ℕ) → goodTable p ≡ true → numbers ≡ p 
     → record { good = true; table = record { numbers = numbers; count = length p } } ≡ tabledOf p
 unfolding tabledOf
 a-table p numbers e f = rw (e, f)
+
+-- what a caller knows of a list that was copied: it is no table, or it stands in front
+by-table : (p : List ℕ) (P : Type 0) → (goodTable p ≡ true → P) → (goodTable p ≡ false → P) → P
+by-table p P f g = go (goodTable p) refl
+  where
+    go : (b : Bool) → goodTable p ≡ b → P
+    go true e = f e
+    go false e = g e
+
+pub record Copied (p : List ℕ) (t : Tabled) : Type 0 where
+  pub good : goodTable p ≡ true
+  pub within : t .table .count ≤ length (t .table .numbers)
+  pub front : take (t .table .count) (t .table .numbers) ≡ p
+
+pub not-copied : (p : List ℕ) (t : Tabled) → t ≡ tabledOf p → not (t .good) ≡ true → goodTable p ≡ false
+unfolding tabledOf
+not-copied p t e f =
+    by-table p (goodTable p ≡ false)
+    (λ g. let q : t .good ≡ true = ap (λ (x : Tabled). x .good) e ∙ rw g in let z : true ≡ false = sym q ∙ flag-false (t .good) f in cc)
+    (λ g. g)
+
+pub is-copied : (p : List ℕ) (t : Tabled) → t ≡ tabledOf p → not (t .good) ≡ false → Copied p t
+unfolding tabledOf
+is-copied p t e f =
+    by-table p (Copied p t)
+    (λ g. rw e (rw g (record { good = g; within = simp length-append (omega arith); front = take-at p (replicate (32 - length p) 0) (length p) refl })))
+    (λ g. let q : t .good ≡ false = ap (λ (x : Tabled). x .good) e ∙ rw g in let z : _≡_ {A = ℕ} 0 1 = cc in absurd (omega arith))

@@ -112,15 +112,20 @@ digestVerdict pairs h r k =
 abbrev pub isGone : Record → Bool
 isGone r = eqb (r .flags) 1
 
--- 9: gone with extents offset or count not 0; not gone with none; or misplaced
-unfoldable pub extentsVerdict : Header → Record → ℕ → Verdict
-extentsVerdict h r k =
-    cond (isGone r)
-    (must (eqb (r .«extents_offset» .0) 0) (Extents k) then must (eqb (r .«extent_count») 0) (Extents k))
-    (must (leb 1 (r .«extent_count»)) (Extents k)
+-- 9: gone with extents offset or count not 0
+unfoldable pub goneExtents : Record → ℕ → Verdict
+goneExtents r k = must (eqb (r .«extents_offset» .0) 0) (Extents k) then must (eqb (r .«extent_count») 0) (Extents k)
+
+-- not gone with none, or misplaced
+unfoldable pub liveExtents : Header → Record → ℕ → Verdict
+liveExtents h r k =
+    must (leb 1 (r .«extent_count»)) (Extents k)
     then must (leb (extentsOffset h) (r .«extents_offset» .0)) (Extents k)
     then must (eqb ((r .«extents_offset» .0 - extentsOffset h) % extentSize) 0) (Extents k)
-    then must (leb (r .«extents_offset» .0 + extentSize * r .«extent_count») (extentsOffset h + extentSize * extentCount h)) (Extents k))
+    then must (leb (r .«extents_offset» .0 + extentSize * r .«extent_count») (extentsOffset h + extentSize * extentCount h)) (Extents k)
+
+unfoldable pub extentsVerdict : Header → Record → ℕ → Verdict
+extentsVerdict h r k = cond (isGone r) (goneExtents r k) (liveExtents h r k)
 
 -- an extent's offset + length is at most 4,294,967,296
 abbrev pub extentFits : Extent → Bool
@@ -134,14 +139,17 @@ unfoldable pub sumLengths : List Extent → ℕ
 sumLengths [] = 0
 sumLengths (e ∷ es) = e .length + sumLengths es
 
--- 10: an extent passes 2^32, the sum differs or passes the limit, or gone with total not 0
+-- 10: an extent passes 2^32, the sum differs or passes the limit
+unfoldable pub liveTotal : Shape → List Extent → ℕ → ℕ → Verdict
+liveTotal sh es total k =
+    must (allFit es) (Total k)
+    then must (leb (sumLengths es) (sh .totalLimit)) (Total k)
+    then must (eqb (sumLengths es) total) (Total k)
+
+-- or gone with total not 0
 unfoldable pub totalVerdict : Shape → List ℕ → Record → ℕ → Verdict
 totalVerdict sh s r k =
-    cond (isGone r)
-    (must (eqb (r .«total_length») 0) (Total k))
-    (must (allFit (extentsIn s r)) (Total k)
-    then must (leb (sumLengths (extentsIn s r)) (sh .totalLimit)) (Total k)
-    then must (eqb (sumLengths (extentsIn s r)) (r .«total_length»)) (Total k))
+    cond (isGone r) (must (eqb (r .«total_length») 0) (Total k)) (liveTotal sh (extentsIn s r) (r .«total_length») k)
 
 -- one record, which is number k
 unfoldable pub recordRules : Shape → List ℕ → List ℕ → Header → Record → ℕ → Verdict

@@ -1,0 +1,4 @@
+pub mod HeaderRows
+pub mod RecordRows
+pub mod ExtentRows
+pub mod Whole

@@ -1,0 +1,270 @@
+-- How the tables stand in order: one record, the pass over all of them, what follows the layout, and the whole.
+-- Assumes nothing.
+use Prim.Native.Nat.{ℕ, _+_, _-_, _*_, _%_, _≤_, _<_, max}
+use mathlib.Core.Path.{_≡_, refl, sym, ap, _∙_}
+use mathlib.Core.Bool.{Bool, true, false, not}
+use mathlib.Core.List.{List, _++_}
+use native.Mathlib.Numerals.{add-one}
+use native.Mathlib.Omega.{arith}
+use borrow.Author.Tests.{leb-true, eqb-true, eq-eqb, ne-eqb}
+use lib.Dec.{leb, eqb}
+use lib.ListN.{length, take, replicate}
+use lib.Seq.{take-at}
+use Rattle.rules.specs.declared.Refusal.{Refusal}
+use Rattle.rules.specs.declared.Refusal.the-variants.{Size, Layout, Digest, Visibility, Table as TableWrong}
+use Rattle.rules.specs.declared.Verdict.{Verdict}
+use Rattle.rules.specs.declared.Verdict.the-variants.{Accepted, Refused}
+use Rattle.rules.specs.Rules.{_then_, firstOver}
+use Rattle.rules.specs.Answers.{checkAnswer}
+use Rattle.rules.proofs.Order.{tests, held, must-accepted, then-accepted, first-none, first-more, first-refused, first-accepted}
+use Rattle.segment.specs.declared.header.Header.{Header}
+use Rattle.segment.specs.declared.record.Record.{Record}
+use Rattle.segment.specs.Format.{v3, headerOf, recordOf, recordNo, recordCount, recordsOffset, bloomSize, bloomOffset, digestsOffset, digestsSize, extentsOffset, extentCount}
+use Rattle.segment.specs.Table.{goodTable, tableVerdict, allows}
+use Rattle.segment.specs.Check.{
+  sizeVerdict,
+  headVerdict,
+  bloomPlace,
+  layoutVerdict,
+  checksumVerdict,
+  segmentRules,
+  segmentVerdict,
+  checked,
+  checkOf,
+  marksVerdict,
+  digestVerdict,
+  extentsVerdict,
+  totalVerdict,
+  recordRules,
+  recordVerdict,
+  largestBelow,
+  visibilityNo,
+  visibilityVerdict,
+  digestIn,
+  keyNo,
+}
+use Rattle.segment.specs.Keys.{freshKey}
+use Rattle.order.specs.declared.Kind.the-variants.{Records}
+use Rattle.order.specs.Items.{Item, Items, Stands, itemKey, itemHash, itemDigest, itemSpan, recordSpan}
+use Rattle.accept.specs.declared.records.Passed.the-variants.{Largest, Refused as NotPassed}
+use Rattle.accept.specs.Told.{Laid, identityRules, slicesRules, passed, contentsVerdict, bodyRules, headerRules}
+
+then-assoc : (a b c : Verdict) → ((a then b) then c) ≡ (a then (b then c))
+then-assoc Accepted b c = refl
+then-assoc (Refused x) b c = refl
+
+-- ---- one record
+
+module _ (pairs s : List ℕ) (h : Header) (r : Record) (k : ℕ) where
+  pub marks-stop : (x : Refusal) → marksVerdict h r k ≡ Refused x → Refused x ≡ identityRules pairs h r k
+  unfolding identityRules
+  marks-stop x e = rw e
+
+  pub marks-pass : {v : Verdict} → marksVerdict h r k ≡ Accepted → v ≡ digestVerdict pairs h r k → v ≡ identityRules pairs h r k
+  unfolding identityRules
+  marks-pass e f = rw e f
+
+  pub extents-stop : (x : Refusal) → extentsVerdict h r k ≡ Refused x → Refused x ≡ slicesRules s h r k
+  unfolding slicesRules
+  extents-stop x e = rw e
+
+  pub extents-pass : {v : Verdict} → extentsVerdict h r k ≡ Accepted → v ≡ totalVerdict v3 s r k → v ≡ slicesRules s h r k
+  unfolding slicesRules
+  extents-pass e f = rw e f
+
+  in-two : recordRules v3 pairs s h r k ≡ (identityRules pairs h r k then slicesRules s h r k)
+  unfolding recordRules identityRules slicesRules
+  in-two = sym (then-assoc (marksVerdict h r k) (digestVerdict pairs h r k) (extentsVerdict h r k then totalVerdict v3 s r k))
+
+  pub identity-stop : (x : Refusal) → identityRules pairs h r k ≡ Refused x → Refused x ≡ recordRules v3 pairs s h r k
+  identity-stop x e = sym (in-two ∙ rw e)
+
+  pub identity-pass : {v : Verdict} → identityRules pairs h r k ≡ Accepted → v ≡ slicesRules s h r k → v ≡ recordRules v3 pairs s h r k
+  identity-pass e f = f ∙ sym (in-two ∙ rw e)
+
+-- ---- the pass over the records
+
+-- a pass has come to k, and nothing is refused below it
+pub record Passing (pairs s : List ℕ) (h : Header) (k largest : ℕ) : Type 0 where
+  pub accepted : firstOver k (recordVerdict v3 pairs s h) ≡ Accepted
+  pub shown : largest ≡ largestBelow k (visibilityNo v3 s h)
+
+pub pass-start : (pairs s : List ℕ) (h : Header) → Passing pairs s h 0 0
+unfolding largestBelow
+pass-start pairs s h = record { accepted = first-none (recordVerdict v3 pairs s h); shown = refl }
+
+module _ (pairs s : List ℕ) (h : Header) (k largest : ℕ) (r : Record) (p : Passing pairs s h k largest) (q : r ≡ recordOf v3 s (recordsOffset h + 48 * k)) where
+  here : recordRules v3 pairs s h r k ≡ recordVerdict v3 pairs s h k
+  unfolding recordVerdict recordNo
+  here = rw q
+
+  pub pass-refused : (n : ℕ) (x : Refusal) → k < n → recordRules v3 pairs s h r k ≡ Refused x → NotPassed x ≡ passed pairs s h n
+  unfolding passed
+  pass-refused n x l e = rw (first-refused n k (recordVerdict v3 pairs s h) x l (p .accepted) (sym here ∙ e))
+
+  pub pass-more : (m : ℕ) → recordRules v3 pairs s h r k ≡ Accepted → m ≡ max largest (r .visibility) → Passing pairs s h (k + 1) m
+  unfolding largestBelow visibilityNo recordNo
+  pass-more m e f = record {
+    accepted = first-more k (recordVerdict v3 pairs s h) (p .accepted) (sym here ∙ e);
+    shown = f ∙ rw (add-one, p .shown, q);
+  }
+
+pub pass-done : (pairs s : List ℕ) (h : Header) (n k largest : ℕ) → Passing pairs s h k largest → k ≤ n → n ≤ k → Largest largest ≡ passed pairs s h n
+unfolding passed
+pass-done pairs s h n k largest p a b =
+    let e : n ≡ k = omega arith in
+    rw (e, p .accepted, ← p .shown)
+
+-- ---- after the checksum
+
+-- the keys of the records, as items and as records
+same-keys : (pairs s : List ℕ) (h : Header) (n : ℕ)
+    → firstOver n (freshKey (itemKey (Records (recordsOffset h)) s pairs)) ≡ firstOver n (freshKey (keyNo v3 s h))
+unfolding itemKey itemHash itemDigest itemSpan recordSpan keyNo digestIn recordNo
+same-keys pairs s h n = refl
+
+by-verdict : (v : Verdict) (P : Type 0) → (v ≡ Accepted → P) → ((x : Refusal) → v ≡ Refused x → P) → P
+by-verdict Accepted P f g = f refl
+by-verdict (Refused x) P f g = g x refl
+
+module _ (pairs s : List ℕ) (h : Header) where
+  every : Verdict
+  every = firstOver (recordCount h) (recordVerdict v3 pairs s h)
+
+  -- what the pass says of the records
+  pass-told : (x : Refusal) → NotPassed x ≡ passed pairs s h (recordCount h) → every ≡ Refused x
+  unfolding passed every
+  pass-told x e =
+      by-verdict every (every ≡ Refused x)
+      (λ f. let q : NotPassed x ≡ Largest (largestBelow (recordCount h) (visibilityNo v3 s h)) = e ∙ rw f in cc)
+      (λ y f. let q : NotPassed x ≡ NotPassed y = e ∙ rw f in cc)
+
+  module _ (v : ℕ) (e : Largest v ≡ passed pairs s h (recordCount h)) where
+    pub all-passed : firstOver (recordCount h) (recordVerdict v3 pairs s h) ≡ Accepted
+    unfolding passed every
+    all-passed =
+        by-verdict every (every ≡ Accepted) (λ f. f)
+        (λ y f. let q : Largest v ≡ NotPassed y = e ∙ rw f in cc)
+
+    largest-is : v ≡ largestBelow (recordCount h) (visibilityNo v3 s h)
+    unfolding passed
+    largest-is =
+        let q : Largest v ≡ Largest (largestBelow (recordCount h) (visibilityNo v3 s h)) = e ∙ rw all-passed in
+        cc
+
+    pub shown-wrong : (v ≡ h .visibility → ⊥) → Refused Visibility ≡ contentsVerdict pairs s h
+    unfolding contentsVerdict visibilityVerdict
+    shown-wrong d = rw (all-passed, ← largest-is, ne-eqb (h .visibility) v (λ q. d (sym q)))
+
+    pub keys-told : {w : Verdict} → v ≡ h .visibility → w ≡ firstOver (recordCount h) (freshKey (itemKey (Records (recordsOffset h)) s pairs))
+        → w ≡ contentsVerdict pairs s h
+    unfolding contentsVerdict visibilityVerdict
+    keys-told d f = f ∙ same-keys pairs s h (recordCount h) ∙ rw (all-passed, ← largest-is, eq-eqb (h .visibility) v (sym d))
+
+  pub contents-stop : (x : Refusal) → NotPassed x ≡ passed pairs s h (recordCount h) → Refused x ≡ contentsVerdict pairs s h
+  unfolding contentsVerdict every
+  contents-stop x e = rw (pass-told x e)
+
+-- ---- what the keys' scan is told: each record and its digest can be read
+
+digest-end : (pairs : List ℕ) (h : Header) (r : Record) (k : ℕ) → digestVerdict pairs h r k ≡ Accepted
+    → r .«digest_offset» .0 + r .«digest_length» ≤ digestsOffset h + digestsSize h
+unfolding digestVerdict
+digest-end pairs h r k e =
+    let at = r .«digest_offset» .0 in
+    let end = digestsOffset h + digestsSize h in
+    let a = held (allows pairs (r .«hash_id») (r .«digest_length»)) (Digest k) _ e in
+    let b = held (leb (digestsOffset h) at) (Digest k) _ (a .1) in
+    leb-true (at + r .«digest_length») end (must-accepted (leb (at + r .«digest_length») end) (Digest k) .0 (b .1))
+
+record-digest : (pairs s : List ℕ) (h : Header) (k : ℕ) → recordVerdict v3 pairs s h k ≡ Accepted
+    → digestVerdict pairs h (recordNo v3 s h k) k ≡ Accepted
+unfolding recordVerdict recordRules
+record-digest pairs s h k e =
+    let r = recordNo v3 s h k in
+    let a = then-accepted (marksVerdict h r k) _ .0 e in
+    then-accepted (digestVerdict pairs h r k) _ .0 (a .1) .0
+
+one-stands : (pairs s : List ℕ) (h : Header) (k : ℕ) → Laid s h → k < recordCount h → recordVerdict v3 pairs s h k ≡ Accepted
+    → Item (Records (recordsOffset h)) s pairs k
+unfolding Stands itemSpan recordSpan recordNo
+one-stands pairs s h k l i e =
+    let d = digest-end pairs h (recordNo v3 s h k) k (record-digest pairs s h k e) in
+    record { stands = omega arith; digest = omega (arith, d) }
+
+pub records-stand : (pairs s : List ℕ) (h : Header) → Laid s h → firstOver (recordCount h) (recordVerdict v3 pairs s h) ≡ Accepted
+    → Items (Records (recordsOffset h)) s pairs (recordCount h)
+records-stand pairs s h l e = record { each = λ k i. one-stands pairs s h k l i (first-accepted (recordCount h) (recordVerdict v3 pairs s h) .0 e k i) }
+
+-- ---- the whole
+
+pub laid-of : (s : List ℕ) (h : Header) → headerRules h (length s) ≡ Accepted → length s ≤ 1073741824 → Laid s h
+unfolding headerRules layoutVerdict
+laid-of s h e most =
+    let w = then-accepted (headVerdict v3 h) (layoutVerdict v3 h (length s)) .0 e .1 in
+    let a = held (eqb (bloomOffset h) (bloomPlace (bloomSize h))) Layout _ w in
+    let b = held (eqb (bloomSize h % 8) 0) Layout _ (a .1) in
+    let c = held (leb (recordCount h) 65536) Layout _ (b .1) in
+    let d = held (eqb (recordsOffset h) (112 + bloomSize h)) Layout _ (c .1) in
+    let f = held (eqb (digestsOffset h) (recordsOffset h + 48 * recordCount h)) Layout _ (d .1) in
+    let g = held (eqb (digestsSize h % 8) 0) Layout _ (f .1) in
+    let i = held (eqb (extentsOffset h) (digestsOffset h + digestsSize h)) Layout _ (g .1) in
+    let j = must-accepted (eqb (length s) (extentsOffset h + 16 * extentCount h + 24)) Layout .0 (i .1) in
+    record {
+      few = leb-true (recordCount h) 65536 (c .0);
+      records = eqb-true (recordsOffset h) (112 + bloomSize h) (d .0);
+      digests = eqb-true (digestsOffset h) (recordsOffset h + 48 * recordCount h) (f .0);
+      extents = eqb-true (extentsOffset h) (digestsOffset h + digestsSize h) (i .0);
+      file = eqb-true (length s) (extentsOffset h + 16 * extentCount h + 24) j;
+      most = most;
+    }
+
+module _ (h : Header) (n : ℕ) where
+  pub head-stop : (x : Refusal) → headVerdict v3 h ≡ Refused x → Refused x ≡ headerRules h n
+  unfolding headerRules
+  head-stop x e = rw e
+
+  pub head-pass : {v : Verdict} → headVerdict v3 h ≡ Accepted → v ≡ layoutVerdict v3 h n → v ≡ headerRules h n
+  unfolding headerRules
+  head-pass e f = rw e f
+
+module _ (pairs s : List ℕ) (h : Header) where
+  pub checksum-stop : (x : Refusal) → checksumVerdict s ≡ Refused x → Refused x ≡ bodyRules pairs s h
+  unfolding bodyRules
+  checksum-stop x e = rw e
+
+  pub checksum-pass : {v : Verdict} → checksumVerdict s ≡ Accepted → v ≡ contentsVerdict pairs s h → v ≡ bodyRules pairs s h
+  unfolding bodyRules
+  checksum-pass e f = rw e f
+
+  in-parts : segmentRules v3 pairs s h ≡ (headerRules h (length s) then bodyRules pairs s h)
+  unfolding segmentRules headerRules bodyRules contentsVerdict
+  in-parts = sym (then-assoc (headVerdict v3 h) (layoutVerdict v3 h (length s)) (bodyRules pairs s h))
+
+  pub header-stop : (x : Refusal) → headerRules h (length s) ≡ Refused x → Refused x ≡ segmentRules v3 pairs s h
+  header-stop x e = sym (in-parts ∙ rw e)
+
+  pub header-pass : {v : Verdict} → headerRules h (length s) ≡ Accepted → v ≡ bodyRules pairs s h → v ≡ segmentRules v3 pairs s h
+  header-pass e f = f ∙ sym (in-parts ∙ rw e)
+
+module _ (pairs s : List ℕ) where
+  pub too-small : length s < 136 → Refused Size ≡ segmentVerdict v3 pairs s
+  unfolding segmentVerdict sizeVerdict
+  too-small a = simp tests
+
+  module _ (a : 136 ≤ length s) where
+    pub too-large : 1073741824 < length s → Refused Size ≡ segmentVerdict v3 pairs s
+    unfolding segmentVerdict sizeVerdict
+    too-large b = simp tests
+
+    pub sized : {v : Verdict} (h : Header) → length s ≤ 1073741824 → h ≡ headerOf s → v ≡ segmentRules v3 pairs s h → v ≡ segmentVerdict v3 pairs s
+    unfolding segmentVerdict sizeVerdict
+    sized h b e f = f ∙ ap (segmentRules v3 pairs s) e ∙ simp tests
+
+pub table-bad : (pairs s : List ℕ) → goodTable pairs ≡ false → checkAnswer (Refused TableWrong) ≡ checkOf pairs s
+unfolding checkOf checked tableVerdict
+table-bad pairs s e = rw e
+
+pub table-good : (pairs part s : List ℕ) {v : Verdict} → goodTable pairs ≡ true → part ≡ pairs → v ≡ segmentVerdict v3 part s → checkAnswer v ≡ checkOf pairs s
+unfolding checkOf checked tableVerdict
+table-good pairs part s e p f = rw e (ap checkAnswer (f ∙ ap (λ (q : List ℕ). segmentVerdict v3 q s) p))

@@ -1,0 +1,17 @@
+-- `accept::check_body` meets its contract: the checksum, and then the contents.
+use borrow.Author.Needs.{needs}
+use native.Mathlib.Omega.{arith}
+use Rattle.accept.proofs.Whole.{checksum-stop, checksum-pass}
+use Rattle.accept.proofs.check_body.Statement.{statement}
+use Rattle.accept.proofs.check_body.Tie as tie
+
+pub check-body-spec : {M : Type 1} → statement M
+check-body-spec =
+    tie.close
+    (tie.spec
+    (λ c κs. omega arith)
+    (λ c. search needs)
+    (λ c. checksum-stop _ _ _ _ (cc))
+    (λ c. search needs)
+    (λ c κs. search needs)
+    (λ c. checksum-pass _ _ _ (cc) (c .check-contents .ensures)))

@@ -1,0 +1,26 @@
+-- `accept::check_contents` meets its contract: the records, then the largest visibility, then the keys.
+use borrow.Author.Needs.{needs}
+use native.Mathlib.Omega.{arith}
+use Rattle.accept.proofs.Whole.{contents-stop, shown-wrong, all-passed, records-stand, keys-told}
+use Rattle.accept.proofs.check_contents.Statement.{statement}
+use Rattle.accept.proofs.check_contents.Tie as tie
+
+readable : tie.Need-check-keys-requires
+readable c κs =
+    let at = c .before .before .before in
+    records-stand _ _ _ (at .before .before .before .before .before .pre) (all-passed _ _ _ (at .v .given .0 .0) (cc))
+
+told : tie.Need-returns-3
+told c = keys-told _ _ _ (c .before .before .before .before .v .given .0 .0) (cc) (omega arith) (c .check-keys .ensures)
+
+pub check-contents-spec : {M : Type 1} → statement M
+check-contents-spec =
+    tie.close
+    (tie.spec
+    (λ c κs. search needs)
+    (λ c. search needs)
+    (λ c. contents-stop _ _ _ _ (cc))
+    (λ c. search needs)
+    (λ c. shown-wrong _ _ _ (c .before .before .before .v .given .0 .0) (cc) (omega arith))
+    readable
+    told)

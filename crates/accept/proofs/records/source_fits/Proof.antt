@@ -1,0 +1,11 @@
+-- `accept::records::source_fits` meets its contract: two cases.
+use Rattle.accept.proofs.RecordRows.{imported-source, own-source}
+use Rattle.accept.proofs.records.source_fits.Statement.{statement}
+use Rattle.accept.proofs.records.source_fits.Tie as tie
+
+pub source-fits-spec : {M : Type 1} → statement M
+source-fits-spec =
+    tie.close
+    (tie.spec
+    (λ c. search imported-source)
+    (λ c. search own-source))

@@ -1,0 +1,91 @@
+// Check: the first rule of document 01 that a segment breaks under a table, or that it is accepted.
+ghost use mathlib.Core.Path.{_≡_};
+ghost use Prim.Native.Nat.{_≤_};
+ghost use lib.ListN.{length};
+ghost use Rattle.rules.specs.Answers.{checkAnswer};
+ghost use Rattle.segment.specs.Format.{v3};
+ghost use Rattle.segment.specs.Check.{segmentRules, segmentVerdict, checkOf};
+ghost use Rattle.accept.specs.Told.{Laid, contentsVerdict, bodyRules};
+use order::Kind;
+use records::Passed;
+use rules::Refusal;
+use rules::Verdict;
+use segment::header::Header;
+use segment::table::Table;
+
+mod extents;
+mod header;
+mod records;
+
+// Records, visibility and duplicates, of a segment whose header, layout and checksum are right.
+fn check_contents(pairs: &[u64], seg: &[u8], h: Header) -> Verdict
+    requires { ⌜ Laid (now seg) h ⌝ }
+    ensures { λ r. ⌜ r ≡ contentsVerdict (now (pairs .entry)) (now (seg .entry)) h ⌝ }
+{
+    match records::check_records(pairs, seg, h) {
+        Passed::Refused(r) => {
+            return Verdict::Refused(r);
+        }
+        Passed::Largest(v) => {
+            if v != h.visibility {
+                return Verdict::Refused(Refusal::Visibility);
+            }
+        }
+    }
+    let at = h.records_offset.0 as usize;
+    let n = h.record_count as usize;
+    order::check_keys(Kind::Records(at), seg, pairs, n)
+}
+
+// The checksum, and then the contents.
+fn check_body(pairs: &[u64], seg: &[u8], h: Header) -> Verdict
+    requires { ⌜ Laid (now seg) h ⌝ }
+    ensures { λ r. ⌜ r ≡ bodyRules (now (pairs .entry)) (now (seg .entry)) h ⌝ }
+{
+    match header::check_checksum(seg) {
+        Verdict::Refused(r) => {
+            return Verdict::Refused(r);
+        }
+        Verdict::Accepted => {}
+    }
+    check_contents(pairs, seg, h)
+}
+
+fn check_rules(pairs: &[u64], seg: &[u8], h: Header) -> Verdict
+    requires { ⌜ length (now seg) ≤ 1073741824 ⌝ }
+    ensures { λ r. ⌜ r ≡ segmentRules v3 (now (pairs .entry)) (now (seg .entry)) h ⌝ }
+{
+    match header::check_header(h, seg.len() as u64) {
+        Verdict::Refused(r) => {
+            return Verdict::Refused(r);
+        }
+        Verdict::Accepted => {}
+    }
+    check_body(pairs, seg, h)
+}
+
+// Everything but the table.
+pub fn check_segment(pairs: &[u64], seg: &[u8]) -> Verdict
+    ensures { λ r. ⌜ r ≡ segmentVerdict v3 (now (pairs .entry)) (now (seg .entry)) ⌝ }
+{
+    if seg.len() < 136 {
+        return Verdict::Refused(Refusal::Size);
+    }
+    if 1073741824 < seg.len() {
+        return Verdict::Refused(Refusal::Size);
+    }
+    check_rules(pairs, seg, Header::of(seg))
+}
+
+pub fn check(pairs: &[u64], seg: &[u8]) -> Verdict
+    ensures { λ r. ⌜ checkAnswer r ≡ checkOf (now (pairs .entry)) (now (seg .entry)) ⌝ }
+{
+    let tabled = Table::of(pairs);
+    if !tabled.good {
+        return Verdict::Refused(Refusal::Table);
+    }
+    let table = tabled.table;
+    let numbers = table.numbers;
+    let count = table.count;
+    check_segment(&numbers[..count], seg)
+}
