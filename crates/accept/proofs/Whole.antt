@@ -268,3 +268,40 @@ table-bad pairs s e = rw e
 pub table-good : (pairs part s : List ℕ) {v : Verdict} → goodTable pairs ≡ true → part ≡ pairs → v ≡ segmentVerdict v3 part s → checkAnswer v ≡ checkOf pairs s
 unfolding checkOf checked tableVerdict
 table-good pairs part s e p f = rw e (ap checkAnswer (f ∙ ap (λ (q : List ℕ). segmentVerdict v3 q s) p))
+
+-- ---- what is known of an accepted segment, for those who read on
+
+pub record Sound (pairs s : List ℕ) : Type 0 where
+  pub long : 136 ≤ length s
+  pub laid : Laid s (headerOf s)
+  pub records : firstOver (recordCount (headerOf s)) (recordVerdict v3 pairs s (headerOf s)) ≡ Accepted
+
+sized-so : (n : ℕ) → sizeVerdict n ≡ Accepted → (136 ≤ n) × (n ≤ 1073741824)
+unfolding sizeVerdict
+sized-so n e =
+    let a = held (leb 136 n) Size _ e in
+    (leb-true 136 n (a .0), leb-true n 1073741824 (must-accepted (leb n 1073741824) Size .0 (a .1)))
+
+contents-of : (pairs s : List ℕ) (h : Header) → bodyRules pairs s h ≡ Accepted → firstOver (recordCount h) (recordVerdict v3 pairs s h) ≡ Accepted
+unfolding bodyRules contentsVerdict
+contents-of pairs s h e =
+    let a = then-accepted (checksumVerdict s) (contentsVerdict pairs s h) .0 e .1 in
+    then-accepted (firstOver (recordCount h) (recordVerdict v3 pairs s h)) _ .0 a .0
+
+pub sound-of : (pairs s : List ℕ) → segmentVerdict v3 pairs s ≡ Accepted → Sound pairs s
+unfolding segmentVerdict
+sound-of pairs s e =
+    let a = then-accepted (sizeVerdict (length s)) (segmentRules v3 pairs s (headerOf s)) .0 e in
+    let z = sized-so (length s) (a .0) in
+    let b = then-accepted (headerRules (headerOf s) (length s)) (bodyRules pairs s (headerOf s)) .0 (sym (in-parts pairs s (headerOf s)) ∙ a .1) in
+    record { long = z .0; laid = laid-of s (headerOf s) (b .0) (z .1); records = contents-of pairs s (headerOf s) (b .1) }
+
+-- the same of the header that was read, with every record and its digest in reach
+pub record Readable (pairs s : List ℕ) (h : Header) : Type 0 where
+  pub laid : Laid s h
+  pub items : Items (Records (recordsOffset h)) s pairs (recordCount h)
+
+pub readable : (pairs s : List ℕ) (h : Header) → h ≡ headerOf s → segmentVerdict v3 pairs s ≡ Accepted → Readable pairs s h
+readable pairs s h e v =
+    let f = sound-of pairs s v in
+    rw e (record { laid = f .laid; items = records-stand pairs s (headerOf s) (f .laid) (f .records) })

@@ -46,7 +46,7 @@ use Rattle.segment.specs.Check.{
   checkOf,
 }
 use Rattle.segment.specs.Tidy.{tidyForm, formOf, formBody, formHeader, packed, headerFields, recordFields, recordsBytes, digestBytes, digestSection, extentListBytes, extentBytes, extentFields}
-use Rattle.segment.specs.LookUp.{keyVerdict, recordFound, foundOver, foundNo, foundIn, lookedUp, lookUpOf}
+use Rattle.segment.specs.LookUp.{keyVerdict, recordFound, foundOver, foundNo, foundIn, foundUnder, lookedUp, lookUpOf}
 use Rattle.demands.specs.PCases.{
   RightChecksum,
   headerWith,
@@ -96,7 +96,7 @@ check-is pairs s g e = rw (g, e)
 
 found-is : (pairs s : List ℕ) (hash : ℕ) (digest : List ℕ) {f : Found} → goodTable pairs ≡ true → allows pairs hash (length digest) ≡ true
     → segmentVerdict v3 pairs s ≡ Accepted → foundIn v3 s (headerOf s) (keyOf hash digest) ≡ f → lookUpOf pairs s hash digest ≡ foundAnswer f
-unfolding lookUpOf lookedUp tableVerdict keyVerdict
+unfolding lookUpOf lookedUp foundUnder tableVerdict keyVerdict
 found-is pairs s hash digest g a e k = rw (g, a, e, k)
 
 pub empty : Empty

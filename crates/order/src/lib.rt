@@ -4,7 +4,7 @@ ghost use mathlib.Core.Path.{_≡_};
 ghost use Prim.Native.Nat.{_+_, _<_, _≤_};
 ghost use lib.ListN.{length};
 ghost use Rattle.rules.specs.Rules.{firstOver};
-ghost use Rattle.segment.specs.Keys.{eqList, sameKey, freshKey};
+ghost use Rattle.segment.specs.Keys.{keyOf, eqList, sameKey, freshKey};
 ghost use Rattle.order.specs.Items.{recordSpan, entrySpan, Item, Items, itemHash, itemSpan, itemDigest, itemKey};
 use rules::Refusal;
 use rules::Verdict;
@@ -97,6 +97,17 @@ fn same_key(kind: Kind, bytes: &[u8], list: &[u64], i: usize, j: usize) -> bool
         return false;
     }
     same_bytes(digest(kind, bytes, list, i), digest(kind, bytes, list, j))
+}
+
+// Whether an item has the key of a hash id and a digest.
+pub fn key_is(kind: Kind, bytes: &[u8], list: &[u64], k: usize, hash: u64, wanted: &[u8]) -> bool
+    requires { ⌜ Item kind (now bytes) (now list) k ⌝ }
+    ensures { λ r. ⌜ r ≡ eqList (itemKey kind (now (bytes .entry)) (now (list .entry)) k) (keyOf hash (now (wanted .entry))) ⌝ }
+{
+    if hash_of(kind, bytes, list, k) != hash {
+        return false;
+    }
+    same_bytes(digest(kind, bytes, list, k), wanted)
 }
 
 // The first of n items whose key stands earlier, if there is one.

@@ -52,10 +52,13 @@ foundNo sh s h key k = cond (eqList (keyNo sh s h k) key) (recordFound (recordNo
 unfoldable pub foundIn : Shape → List ℕ → Header → List ℕ → Found
 foundIn sh s h key = foundOver (recordCount h) (foundNo sh s h key)
 
+-- under a good table: 17, then as check
+unfoldable pub foundUnder : List ℕ → List ℕ → ℕ → List ℕ → Found
+foundUnder pairs s hash digest =
+    after Refused (keyVerdict pairs hash digest then segmentVerdict v3 pairs s) (foundIn v3 s (headerOf s) (keyOf hash digest))
+
 unfoldable pub lookedUp : List ℕ → List ℕ → ℕ → List ℕ → Found
-lookedUp pairs s hash digest =
-    after Refused (tableVerdict pairs then keyVerdict pairs hash digest then segmentVerdict v3 pairs s)
-    (foundIn v3 s (headerOf s) (keyOf hash digest))
+lookedUp pairs s hash digest = after Refused (tableVerdict pairs) (foundUnder pairs s hash digest)
 
 unfoldable pub lookUpOf : List ℕ → List ℕ → ℕ → List ℕ → Answer
 lookUpOf pairs s hash digest = foundAnswer (lookedUp pairs s hash digest)

@@ -1,0 +1,25 @@
+-- `find::extents_of` meets its contract: each answer's own part.
+use borrow.Author.Needs.{needs}
+use native.Mathlib.Omega.{arith}
+use Rattle.find.proofs.Parts.{part-absent, part-gone, part-present, part-refused}
+use Rattle.find.proofs.extents_of.Statement.{statement}
+use Rattle.find.proofs.extents_of.Tie as tie
+
+pub extents-of-spec : {M : Type 1} → statement M
+extents-of-spec =
+    tie.close
+    (tie.spec
+    (λ c. search needs)
+    (λ c κs. search needs)
+    (λ c. search needs)
+    (λ c κs. search needs)
+    (λ c. search needs)
+    (λ c. search needs)
+    (λ c. omega arith)
+    (λ c κs. search needs)
+    (λ c. search needs)
+    (λ c κs. search needs)
+    (λ c. part-absent _ _ _ (cc) (c .part-from .ensures))
+    (λ c. part-gone _ _ _ {v = (c .before .before .answer .given .0 .0)} {d = (c .before .before .answer .given .0 .1 .0)} {o = (c .before .before .answer .given .0 .1 .1 .0)} (cc) (c .part-from2 .ensures))
+    (λ c. part-present _ _ _ {v = (c .before .before .answer2 .given .0 .0)} {d = (c .before .before .answer2 .given .0 .1 .0)} {o = (c .before .before .answer2 .given .0 .1 .1 .0)} {t = (c .before .before .answer2 .given .0 .1 .1 .1 .0)} {at = (c .before .before .answer2 .given .0 .1 .1 .1 .1 .0)} {n = (c .before .before .answer2 .given .0 .1 .1 .1 .1 .1 .0)} (cc) (c .part-from3 .ensures))
+    (λ c. part-refused _ _ _ {r = (c .before .before .answer3 .given .0 .0)} (cc) (c .part-from4 .ensures)))

@@ -1,0 +1,12 @@
+-- `find::source` meets its contract: two cases.
+use native.Mathlib.Omega.{arith}
+use Rattle.find.proofs.Finding.{no-source, a-source}
+use Rattle.find.proofs.source.Statement.{statement}
+use Rattle.find.proofs.source.Tie as tie
+
+pub source-spec : {M : Type 1} → statement M
+source-spec =
+    tie.close
+    (tie.spec
+    (λ c. search no-source)
+    (λ c. search a-source))

@@ -1,0 +1,137 @@
+// Look up: whether a segment has a record with a key, and what that record says. The whole check is made in every call, so that absent means
+// that no record of an accepted segment has the key.
+ghost use mathlib.Core.Path.{_≡_};
+ghost use lib.ListN.{take, drop};
+ghost use Rattle.rules.specs.declared.Verdict.the-variants.{Accepted};
+ghost use Rattle.rules.specs.Answers.{foundAnswer};
+ghost use Rattle.segment.specs.Format.{v3, headerOf};
+ghost use Rattle.segment.specs.Keys.{keyOf};
+ghost use Rattle.segment.specs.Check.{segmentVerdict};
+ghost use Rattle.segment.specs.Meaning.{sourceOf};
+ghost use Rattle.segment.specs.LookUp.{recordFound, foundIn, foundUnder, lookUpOf, extentsPart};
+use order::Kind;
+use rules::Found;
+use rules::Refusal;
+use rules::Source;
+use rules::Verdict;
+use segment::extent::Extent;
+use segment::header::Header;
+use segment::record::Record;
+use segment::table;
+use segment::table::Table;
+
+fn source(imported: u8, domain: u32) -> Source
+    ensures { λ r. ⌜ r ≡ sourceOf imported domain ⌝ }
+{
+    if imported == 0 {
+        return Source::None;
+    }
+    Source::Domain(domain)
+}
+
+// What is said of a record that was found.
+fn found(r: Record) -> Found
+    ensures { λ f. ⌜ f ≡ recordFound r ⌝ }
+{
+    let origin = source(r.imported, r.source);
+    if r.flags == 1 {
+        return Found::Gone {
+            visibility: r.visibility,
+            domain: r.domain,
+            source: origin,
+        };
+    }
+    Found::Present {
+        visibility: r.visibility,
+        domain: r.domain,
+        source: origin,
+        total: r.total_length,
+        start: r.extents_offset.0,
+        count: r.extent_count,
+    }
+}
+
+// The record of an accepted segment that has the key, if there is one.
+fn find(pairs: &[u64], seg: &[u8], hash: u32, digest: &[u8]) -> Found
+    requires { ⌜ segmentVerdict v3 (now pairs) (now seg) ≡ Accepted ⌝ }
+    ensures { λ r. ⌜ r ≡ foundIn v3 (now (seg .entry)) (headerOf (now (seg .entry))) (keyOf hash (now (digest .entry))) ⌝ }
+{
+    let h = Header::of(seg);
+    let first = h.records_offset.0 as usize;
+    let count = h.record_count as usize;
+    let mut k = 0;
+    while k < count {
+        if order::key_is(Kind::Records(first), seg, pairs, k, hash as u64, digest) {
+            return found(Record::at(seg, first + Record::SIZE * k));
+        }
+        k += 1;
+    }
+    Found::Absent
+}
+
+// Everything but the table.
+fn look_up_under(pairs: &[u64], seg: &[u8], hash: u32, digest: &[u8]) -> Found
+    ensures { λ r. ⌜ r ≡ foundUnder (now (pairs .entry)) (now (seg .entry)) hash (now (digest .entry)) ⌝ }
+{
+    if !table::allows(pairs, hash as u64, digest.len() as u64) {
+        return Found::Refused(Refusal::Key);
+    }
+    match accept::check_segment(pairs, seg) {
+        Verdict::Refused(r) => {
+            return Found::Refused(r);
+        }
+        Verdict::Accepted => {}
+    }
+    find(pairs, seg, hash, digest)
+}
+
+pub fn look_up(pairs: &[u64], seg: &[u8], hash: u32, digest: &[u8]) -> Found
+    ensures { λ r. ⌜ foundAnswer r ≡ lookUpOf (now (pairs .entry)) (now (seg .entry)) hash (now (digest .entry)) ⌝ }
+{
+    let tabled = Table::of(pairs);
+    if !tabled.good {
+        return Found::Refused(Refusal::Table);
+    }
+    let table = tabled.table;
+    let numbers = table.numbers;
+    let count = table.count;
+    look_up_under(&numbers[..count], seg, hash, digest)
+}
+
+// The bytes from a place on, as many as are asked for or as there are.
+fn part_from(seg: &[u8], start: usize, size: usize) -> &[u8]
+    ensures { λ r. ⌜ now r ≡ take size (drop start (now (seg .entry))) ⌝ }
+{
+    if seg.len() < start {
+        let end = seg.len();
+        return &seg[end..];
+    }
+    if seg.len() - start < size {
+        return &seg[start..];
+    }
+    let end = start + size;
+    &seg[start..end]
+}
+
+// The part of the lent segment that holds the extents of an answer: none, unless a record is present.
+pub fn extents_of(seg: &[u8], answer: Found) -> &[u8]
+    ensures { λ r. ⌜ now r ≡ extentsPart answer (now (seg .entry)) ⌝ }
+{
+    match answer {
+        Found::Absent => part_from(seg, 0, 0),
+        Found::Gone {
+            visibility,
+            domain,
+            source,
+        } => part_from(seg, 0, 0),
+        Found::Present {
+            visibility,
+            domain,
+            source,
+            total,
+            start,
+            count,
+        } => { part_from(seg, start as usize, Extent::SIZE * (count as usize)) }
+        Found::Refused(r) => part_from(seg, 0, 0),
+    }
+}
