@@ -1,0 +1,18 @@
+-- `find::look_up_under` meets its contract: the key, the segment, and then the record.
+use borrow.Author.Needs.{needs}
+use Rattle.find.proofs.Finding.{unknown-key, segment-stop, segment-pass}
+use Rattle.find.proofs.look_up_under.Statement.{statement}
+use Rattle.find.proofs.look_up_under.Tie as tie
+
+pub look-up-under-spec : {M : Type 1} → statement M
+look-up-under-spec =
+    tie.close
+    (tie.spec
+    (λ c κs. search needs)
+    (λ c. unknown-key _ _ _ _ _ (c .before .allows .ensures) (c .if1 .taken))
+    (λ c κs. search needs)
+    (λ c. search needs)
+    (λ c. let at = c .before .before .before .before in segment-stop _ _ _ _ _ (at .before .allows .ensures) (at .if1 .left) _ (cc))
+    (λ c. search needs)
+    (λ c κs. cc)
+    (λ c. let at = c .before .before .before .before in segment-pass _ _ _ _ _ (at .before .allows .ensures) (at .if1 .left) (cc) (c .find .ensures)))
