@@ -9,8 +9,11 @@ ghost use Rattle.accept.specs.Told.{Laid, summed, slicesRules};
 use rules::Refusal;
 use rules::Verdict;
 use segment::extent;
+use segment::extent::Extent;
 use segment::header::Header;
 use segment::record::Record;
+
+const EXTENT: u64 = Extent::SIZE as u64;
 
 // The lengths of some extents added up, or that one of them passes the end of its block.
 pub enum Sum {
@@ -25,7 +28,7 @@ fn sum_extents(seg: &[u8], at: usize, count: usize) -> Sum
     let mut sum: u64 = 0;
     let mut i = 0;
     while i < count {
-        let place = at + 16 * i;
+        let place = at + Extent::SIZE * i;
         let offset = extent::offset(seg, place).0 as u64;
         let size = extent::length(seg, place) as u64;
         if 4294967296 < offset + size {
@@ -59,14 +62,14 @@ fn check_extents(seg: &[u8], h: Header, r: Record, k: usize) -> Verdict
     if place < start {
         return Verdict::Refused(Refusal::Extents(k as u64));
     }
-    if (place - start) % 16 != 0 {
+    if (place - start) % EXTENT != 0 {
         return Verdict::Refused(Refusal::Extents(k as u64));
     }
-    let end = start + 16 * h.extent_count;
+    let end = start + EXTENT * h.extent_count;
     if end < place {
         return Verdict::Refused(Refusal::Extents(k as u64));
     }
-    if end - place < 16 * count {
+    if end - place < EXTENT * count {
         return Verdict::Refused(Refusal::Extents(k as u64));
     }
     Verdict::Accepted

@@ -8,11 +8,25 @@ ghost use Rattle.accept.specs.Told.{headerRules};
 ghost use Rattle.segment.specs.Check.{headVerdict, bloomPlace, layoutVerdict, checksumVerdict};
 use rules::Refusal;
 use rules::Verdict;
+use segment::extent::Extent;
 use segment::footer;
+use segment::footer::Footer;
 use segment::header::Header;
+use segment::record::Record;
 
 // ASLIDX03
 const MAGIC: u64 = 0x3330_5844_494C_5341;
+
+// The sizes of the four kinds, as wide as the header's numbers; and the size that the header states.
+const HEADER: u64 = Header::SIZE as u64;
+
+const STATED: u32 = Header::SIZE as u32;
+
+const RECORD: u64 = Record::SIZE as u64;
+
+const EXTENT: u64 = Extent::SIZE as u64;
+
+const FOOTER: u64 = Footer::SIZE as u64;
 
 fn check_head(h: Header) -> Verdict
     ensures { λ r. ⌜ r ≡ headVerdict v3 h ⌝ }
@@ -23,7 +37,7 @@ fn check_head(h: Header) -> Verdict
     if h.version != 3 {
         return Verdict::Refused(Refusal::Version);
     }
-    if h.header_size != 112 {
+    if h.header_size != STATED {
         return Verdict::Refused(Refusal::Header);
     }
     if h.federation != 0 {
@@ -44,7 +58,7 @@ fn check_head(h: Header) -> Verdict
 fn bloom_place(size: u64) -> u64
     ensures { λ r. ⌜ r ≡ bloomPlace size ⌝ }
 {
-    if size == 0 { 0 } else { 112 }
+    if size == 0 { 0 } else { HEADER }
 }
 
 // Whether whole is a + b, over whole numbers.
@@ -61,18 +75,18 @@ fn is_sum(whole: u64, a: u64, b: u64) -> bool
 fn ends_so(n: u64, extents: u64, count: u64) -> bool
     ensures { λ r. ⌜ r ≡ eqb n (extents + 16 * count + 24) ⌝ }
 {
-    if n < 24 {
+    if n < FOOTER {
         return false;
     }
-    let body = n - 24;
+    let body = n - FOOTER;
     if body < extents {
         return false;
     }
     let rest = body - extents;
-    if rest % 16 != 0 {
+    if rest % EXTENT != 0 {
         return false;
     }
-    rest / 16 == count
+    rest / EXTENT == count
 }
 
 fn check_layout(h: Header, n: u64) -> Verdict
@@ -87,10 +101,14 @@ fn check_layout(h: Header, n: u64) -> Verdict
     if 65536 < h.record_count {
         return Verdict::Refused(Refusal::Layout);
     }
-    if !is_sum(h.records_offset.0, 112, h.bloom_size) {
+    if !is_sum(h.records_offset.0, HEADER, h.bloom_size) {
         return Verdict::Refused(Refusal::Layout);
     }
-    if !is_sum(h.digests_offset.0, h.records_offset.0, 48 * h.record_count) {
+    if !is_sum(
+        h.digests_offset.0,
+        h.records_offset.0,
+        RECORD * h.record_count,
+    ) {
         return Verdict::Refused(Refusal::Layout);
     }
     if h.digests_size % 8 != 0 {
@@ -122,7 +140,7 @@ pub fn check_checksum(seg: &[u8]) -> Verdict
     requires { ⌜ 24 ≤ length (now seg) ⌝ }
     ensures { λ r. ⌜ r ≡ checksumVerdict (now (seg .entry)) ⌝ }
 {
-    let end = seg.len() - 24;
+    let end = seg.len() - Footer::SIZE;
     let stored = footer::checksum(seg, end);
     if crc64::crc64_plain(&seg[..end]) != stored {
         return Verdict::Refused(Refusal::Checksum);

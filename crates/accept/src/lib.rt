@@ -10,8 +10,14 @@ use order::Kind;
 use records::Passed;
 use rules::Refusal;
 use rules::Verdict;
+use segment::footer::Footer;
 use segment::header::Header;
 use segment::table::Table;
+
+// A segment's length at the least and at the most: a header and a footer; one GiB.
+const LEAST: usize = Header::SIZE + Footer::SIZE;
+
+const LIMIT: usize = 1073741824;
 
 mod extents;
 mod header;
@@ -68,10 +74,10 @@ fn check_rules(pairs: &[u64], seg: &[u8], h: Header) -> Verdict
 pub fn check_segment(pairs: &[u64], seg: &[u8]) -> Verdict
     ensures { λ r. ⌜ r ≡ segmentVerdict v3 (now (pairs .entry)) (now (seg .entry)) ⌝ }
 {
-    if seg.len() < 136 {
+    if seg.len() < LEAST {
         return Verdict::Refused(Refusal::Size);
     }
-    if 1073741824 < seg.len() {
+    if LIMIT < seg.len() {
         return Verdict::Refused(Refusal::Size);
     }
     check_rules(pairs, seg, Header::of(seg))

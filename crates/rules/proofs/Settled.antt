@@ -43,7 +43,7 @@ byNumber p =
     Size ∷ Size ∷ Magic ∷ Version ∷ Header ∷ Layout ∷ Checksum ∷ Record p ∷ Digest p ∷ Extents p ∷ Total p ∷ Visibility ∷ Duplicate p ∷ Room
     ∷ Table ∷ ListEnd p ∷ Large ∷ Key ∷ []
 
-refusalOf : ℕ → ℕ → Refusal
+pub refusalOf : ℕ → ℕ → Refusal
 refusalOf n p = getD (byNumber p) n Size
 
 refusal-back : (r : Refusal) → refusalOf (numberOf r) (placeOf r) ≡ r
@@ -90,10 +90,10 @@ not-answered Large = refl
 not-answered Key = refl
 
 -- a service's answer from its numbers: where the number is 0, what the values make of it
-taken : {A : Type 0} → (Refusal → A) → (List ℕ → A) → Answer → A
+unfoldable pub taken : {A : Type 0} → (Refusal → A) → (List ℕ → A) → Answer → A
 taken refuse make a = cond (eqb (a .number) 0) (make (a .values)) (refuse (refusalOf (a .number) (a .place)))
 
-taken-refused : {A : Type 0} (refuse : Refusal → A) (make : List ℕ → A) (r : Refusal) → taken refuse make (refused r) ≡ refuse r
+pub taken-refused : {A : Type 0} (refuse : Refusal → A) (make : List ℕ → A) (r : Refusal) → taken refuse make (refused r) ≡ refuse r
 unfolding taken
 taken-refused refuse make r = rw (not-answered r) (ap refuse (refusal-back r))
 

@@ -113,7 +113,7 @@ recordOf sh s at = record {
 unfoldable pub extentOf : List ℕ → ℕ → Extent
 extentOf s at = record { block = numAt 8 s at; offset = inBlock (numAt 4 s (at + 8)); length = numAt 4 s (at + 12) }
 
--- the last 24 bytes
+-- the footer that begins at a place
 unfoldable pub footerOf : List ℕ → ℕ → Footer
 footerOf s at = record { checksum = numAt 8 s at; «seal_snapshot» = numAt 8 s (at + 8); «seal_time» = numAt 8 s (at + 16) }
 

@@ -2,7 +2,7 @@
 -- place and moves on by one; a refused step stays, and past the last record it says done and stays.
 --   stepped       what a step at a place answers
 --   nextPlace     where the walk then is
---   stepAnswer    the same in document 01's numbers
+--   stepOf        the same in document 01's numbers
 -- Assumes nothing: these are definitions.
 use Prim.Native.Nat.{ℕ, suc}
 use mathlib.Core.Bool.{cond}
@@ -36,3 +36,6 @@ abbrev pub stepAnswer : Step → Answer
 stepAnswer (Row r) = answered (recordValues r)
 stepAnswer Done = answered []
 stepAnswer (Refused r) = refused r
+
+unfoldable pub stepOf : List ℕ → List ℕ → ℕ → Answer
+stepOf pairs s k = stepAnswer (stepped pairs s k)

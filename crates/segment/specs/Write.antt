@@ -43,7 +43,7 @@ pub record Entry : Type 0 where
   pub firstExtent : ℕ
   pub extentCount : ℕ
 
--- whole items of a flat list, n numbers to an item
+-- the whole items of a flat list: nine numbers to an entry, three to an extent
 abbrev pub entryCount : List ℕ → ℕ
 entryCount xs = length xs / 9
 
