@@ -1,28 +1,25 @@
 -- What check and look up come to on a file with no record, and on one with a single record, once its size, header, layout and checksum are
 -- right: the rules of that record, and then the header's visibility.
 -- Assumes nothing.
-use Prim.Native.Nat.{ℕ, _-_, _+_, _*_, max}
-use mathlib.Core.Path.{_≡_, refl, sym, ap, _∙_}
-use mathlib.Core.Bool.{true, cond}
-use mathlib.Core.List.{List, [], _∷_}
-use borrow.Author.Tests.{eq-eqb}
+use Prim.Native.Nat.{ℕ, max}
+use mathlib.Core.Path.{_≡_, refl, ap, _∙_}
+use mathlib.Core.Bool.{true}
+use mathlib.Core.List.{List}
 use lib.Dec.{eqb}
-use lib.ListN.{length, take}
+use lib.ListN.{length}
 use Rattle.rules.specs.declared.Refusal.the-variants.{Visibility}
 use Rattle.rules.specs.declared.Verdict.{Verdict}
 use Rattle.rules.specs.declared.Verdict.the-variants.{Accepted, Refused}
-use Rattle.rules.specs.declared.Found.the-variants.{Absent}
 use Rattle.rules.specs.Rules.{must, _then_, firstOver, someBelow}
 use Rattle.segment.specs.declared.header.Header.{Header}
 use Rattle.segment.specs.declared.record.Record.{Record}
-use Rattle.segment.specs.Format.{v3, headerOf, recordOf, recordNo, recordsOffset, recordCount}
-use Rattle.segment.specs.Table.{goodTable, tableVerdict}
+use Rattle.segment.specs.Format.{v3, headerOf, recordNo, recordCount}
+use Rattle.segment.specs.Table.{goodTable}
 use Rattle.segment.specs.Keys.{freshKey}
 use Rattle.segment.specs.Check.{
   sizeVerdict,
   headVerdict,
   layoutVerdict,
-  checksumVerdict,
   recordRules,
   recordVerdict,
   visibilityNo,
@@ -31,9 +28,9 @@ use Rattle.segment.specs.Check.{
   segmentRules,
   segmentVerdict,
   keyNo,
-  checked,
 }
-use Rattle.demands.specs.PCases.{RightChecksum}
+use Rattle.segment.specs.Meets.{ChecksumMeets}
+use Rattle.demands.proofs.TablesHeader.{checksum-book}
 
 -- a file whose table, size, header, layout and checksum are right, with its header written out
 pub record Sound (pairs s : List ℕ) (h : Header) : Type 0 where
@@ -42,23 +39,15 @@ pub record Sound (pairs s : List ℕ) (h : Header) : Type 0 where
   pub header : headerOf s ≡ h
   pub head : headVerdict v3 h ≡ Accepted
   pub layout : layoutVerdict v3 h (length s) ≡ Accepted
-  pub checksum : RightChecksum s
+  pub checksum : ChecksumMeets s
 
 -- 11, over the records' largest visibility
 abbrev pub shows : Header → ℕ → Verdict
 shows h v = must (eqb (h .visibility) v) Visibility
 
-checksum-right : (s : List ℕ) → RightChecksum s → checksumVerdict s ≡ Accepted
-unfolding checksumVerdict
-checksum-right s e = rw (eq-eqb _ _ e)
-
 then-none : (v : Verdict) → (v then Accepted) ≡ v
 then-none Accepted = refl
 then-none (Refused r) = refl
-
-table-right : (pairs : List ℕ) → goodTable pairs ≡ true → tableVerdict pairs ≡ Accepted
-unfolding tableVerdict
-table-right pairs e = rw e
 
 -- the rules of a single record, and then 11
 unfoldable pub oneRules : List ℕ → List ℕ → Header → Record → Verdict
@@ -72,13 +61,9 @@ overRecords pairs s h n =
     then firstOver n (freshKey (keyNo v3 s h))
 
 module _ (pairs s : List ℕ) (h : Header) (f : Sound pairs s h) where
-  pub at-segment : checked pairs s ≡ segmentVerdict v3 pairs s
-  unfolding checked
-  at-segment = rw (table-right pairs (f .good))
-
   at-records : segmentVerdict v3 pairs s ≡ overRecords pairs s h (recordCount h)
   unfolding segmentVerdict segmentRules visibilityVerdict overRecords
-  at-records = rw (f .size, f .header, f .head, f .layout, checksum-right s (f .checksum))
+  at-records = rw (f .size, f .header, f .head, f .layout, checksum-book s .1 (f .checksum))
 
   pub no-record : recordCount h ≡ 0 → segmentVerdict v3 pairs s ≡ shows h 0
   unfolding overRecords firstOver largestBelow

@@ -1,2 +1,10 @@
 pub mod Files
 pub mod PCases
+pub mod Rows
+pub mod TablesHeader
+pub mod TablesRecord
+pub mod TablesWhole
+pub mod Rulebook
+pub mod Stops
+pub mod Refusals
+pub mod LookUps

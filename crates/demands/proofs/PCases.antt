@@ -1,10 +1,10 @@
 -- The ten P cases of document 01 hold of the written meanings. Assumes nothing.
-use Prim.Native.Nat.{ℕ, _+_, _*_, _-_, _≤_, max}
-use mathlib.Core.Path.{_≡_, refl, sym, ap, _∙_}
-use mathlib.Core.Bool.{Bool, true, false, cond}
+use Prim.Native.Nat.{ℕ, _+_, _≤_}
+use mathlib.Core.Path.{_≡_, refl, _∙_}
+use mathlib.Core.Bool.{Bool, true, false}
 use mathlib.Core.List.{List, [], _∷_}
 use native.Mathlib.Omega.{arith}
-use borrow.Author.Tests.{eq-eqb, ne-eqb, le-leb}
+use borrow.Author.Tests.{eq-eqb, le-leb}
 use lib.Dec.{eqb, leb}
 use lib.ListN.{length, take, drop, length-drop}
 use lib.Seq.{length-take-le}
@@ -14,16 +14,16 @@ use Rattle.rules.specs.declared.Source.the-variants.{None}
 use Rattle.rules.specs.declared.Verdict.{Verdict}
 use Rattle.rules.specs.declared.Verdict.the-variants.{Accepted, Refused}
 use Rattle.rules.specs.declared.Found.{Found}
-use Rattle.rules.specs.declared.Found.the-variants.{Absent, Present, Refused as FoundRefused}
-use Rattle.rules.specs.Rules.{must, _then_, after}
-use Rattle.rules.specs.Answers.{Answer, checkAnswer, foundAnswer}
+use Rattle.rules.specs.declared.Found.the-variants.{Absent, Present}
+use Rattle.rules.specs.Rules.{must, _then_}
+use Rattle.rules.specs.Answers.{checkAnswer, foundAnswer}
 use Rattle.segment.specs.declared.header.Header.{Header}
 use Rattle.segment.specs.declared.header.Heading.{Heading}
 use Rattle.segment.specs.declared.record.Record.{Record}
 use Rattle.segment.specs.declared.extent.Extent.{Extent}
-use Rattle.segment.specs.Format.{v3, headerOf, recordOf, recordNo, extentOf, extentsAt, inBlock, recordCount, bloomOffset, bloomSize, recordsOffset}
+use Rattle.segment.specs.Format.{v3, headerOf, recordNo, extentOf, extentsAt, inBlock, recordCount, bloomOffset, bloomSize, recordsOffset}
 use Rattle.segment.specs.Table.{goodTable, allows, tableVerdict}
-use Rattle.segment.specs.Keys.{keyOf, eqList, lexLeq, insert, sortBy}
+use Rattle.segment.specs.Keys.{keyOf, lexLeq, insert, sortBy}
 use Rattle.segment.specs.Check.{
   sizeVerdict,
   headVerdict,
@@ -47,8 +47,8 @@ use Rattle.segment.specs.Check.{
 }
 use Rattle.segment.specs.Tidy.{tidyForm, formOf, formBody, formHeader, packed, headerFields, recordFields, recordsBytes, digestBytes, digestSection, extentListBytes, extentBytes, extentFields}
 use Rattle.segment.specs.LookUp.{keyVerdict, recordFound, foundOver, foundNo, foundIn, foundUnder, lookedUp, lookUpOf}
+use Rattle.order.proofs.Equal.{eqList-self}
 use Rattle.demands.specs.PCases.{
-  RightChecksum,
   headerWith,
   recordWith,
   Stored,
@@ -57,8 +57,6 @@ use Rattle.demands.specs.PCases.{
   NoExtent,
   Empty,
   Short,
-  Lies,
-  tidyOfRows,
   OneRow,
   CaseL,
   GreatBloom,
@@ -70,7 +68,7 @@ use Rattle.demands.specs.PCases.{
   pCases,
   AllHold,
 }
-use Rattle.demands.proofs.Files.{Sound, shows, oneRules, at-segment, no-record, one-record}
+use Rattle.demands.proofs.Files.{Sound, oneRules, no-record, one-record}
 
 -- ---- a file with no record
 
@@ -139,11 +137,6 @@ great-bloom = λ pairs s g least most head at size records.
     check-is pairs s {v = Refused Layout} g (rw (le-leb 136 (length s) least, le-leb (length s) 1073741824 most, head, great-layout (headerOf s) (length s) at size records))
 
 -- ---- one record with an extent
-
-eqList-self : (xs : List ℕ) → eqList xs xs ≡ true
-unfolding eqList
-eqList-self [] = refl
-eqList-self (x ∷ xs) = rw (eq-eqb x x refl) (eqList-self xs)
 
 digest-long : (pairs s : List ℕ) → length s ≡ 208 → allows pairs 7 4 ≡ true → allows pairs 7 (length (take 4 (drop 160 s))) ≡ true
 digest-long pairs s e h = rw (length-take-le 4 (drop 160 s) (simp length-drop (omega arith))) h

@@ -1,1 +1,3 @@
 pub mod PCases
+pub mod Refusals
+pub mod LookUps

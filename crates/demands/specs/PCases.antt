@@ -2,12 +2,11 @@
 -- A case that gets past the checksum is stated for any such file that carries its right checksum: a file is described by what stands in its
 -- fields, and every other byte is free.
 -- Assumes nothing: these are definitions.
-use Prim.Native.Nat.{ℕ, _+_, _-_, _≤_}
+use Prim.Native.Nat.{ℕ, _≤_}
 use mathlib.Core.Path.{_≡_}
 use mathlib.Core.Bool.{true}
 use mathlib.Core.List.{List, [], _∷_}
 use lib.ListN.{length, take, drop}
-use Rattle.crc64.specs.Crc.{crc}
 use Rattle.rules.specs.declared.Source.{Source}
 use Rattle.rules.specs.declared.Source.the-variants.{None}
 use Rattle.rules.specs.declared.Verdict.the-variants.{Accepted}
@@ -18,7 +17,6 @@ use Rattle.segment.specs.declared.record.Record.{Record}
 use Rattle.segment.specs.declared.extent.Extent.{Extent}
 use Rattle.segment.specs.Format.{
   v3,
-  footerSize,
   leastFile,
   fileLimit,
   inFile,
@@ -26,7 +24,6 @@ use Rattle.segment.specs.Format.{
   headerOf,
   recordOf,
   extentOf,
-  footerOf,
   recordsOffset,
   bloomOffset,
   bloomSize,
@@ -36,6 +33,7 @@ use Rattle.segment.specs.Format.{
 }
 use Rattle.segment.specs.Table.{goodTable, allows}
 use Rattle.segment.specs.Check.{headVerdict, checkOf}
+use Rattle.segment.specs.Meets.{ChecksumMeets}
 use Rattle.segment.specs.Meaning.{gone, live, Row}
 use Rattle.segment.specs.Tidy.{tidyForm}
 use Rattle.segment.specs.LookUp.{lookUpOf}
@@ -52,9 +50,6 @@ abbrev pub refusedBy : ℕ → ℕ → Answer
 refusedBy number place = record { number = number; place = place; values = [] }
 
 -- ---- files
-
-abbrev pub RightChecksum : List ℕ → Type 0
-RightChecksum s = footerOf s (length s - footerSize) .checksum ≡ crc (take (length s - footerSize) s)
 
 -- a header without bloom bytes, with so many records, their digests and extents placed so, and a visibility
 abbrev pub headerWith : Heading → (records digestsAt digestsSize extentsAt extents visibility : ℕ) → Header
@@ -107,7 +102,7 @@ pub record Stored (pairs : List ℕ) : Type 0 where
 pub record NoRecords (s : List ℕ) (t : Heading) (visibility : ℕ) : Type 0 where
   pub long : length s ≡ 136
   pub header : headerOf s ≡ headerWith t 0 112 0 112 0 visibility
-  pub checksum : RightChecksum s
+  pub checksum : ChecksumMeets s
 
 -- a file of 208 bytes with one record that is not gone, and one extent
 pub record OneExtent (s : List ℕ) (t : Heading) (total : ℕ) (e : Extent) : Type 0 where
@@ -115,14 +110,14 @@ pub record OneExtent (s : List ℕ) (t : Heading) (total : ℕ) (e : Extent) : T
   pub header : headerOf s ≡ headerWith t 1 160 8 168 1 0
   pub record₀ : recordOf v3 s 112 ≡ recordWith t 168 1 total 0 0
   pub extent : extentOf s 168 ≡ e
-  pub checksum : RightChecksum s
+  pub checksum : ChecksumMeets s
 
 -- a file of 192 bytes with one record and no extent
 pub record NoExtent (s : List ℕ) (t : Heading) (shown : ℕ) (r : Record) : Type 0 where
   pub long : length s ≡ 192
   pub header : headerOf s ≡ headerWith t 1 160 8 168 0 shown
   pub record₀ : recordOf v3 s 112 ≡ r
-  pub checksum : RightChecksum s
+  pub checksum : ChecksumMeets s
 
 -- ---- the cases, in document 01's order
 

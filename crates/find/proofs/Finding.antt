@@ -50,7 +50,7 @@ module _ (r : Record) (o : Source) (e : o ≡ sourceOf (r .imported) (r .source)
   found-live g = rw e (simp tests)
 
 -- a record that was found is not absent
-never-absent : (r : Record) → recordFound r ≡ Absent → ⊥
+pub never-absent : (r : Record) → recordFound r ≡ Absent → ⊥
 unfolding recordFound
 never-absent r = go (isGone r)
   where
@@ -70,6 +70,11 @@ found-none f = refl
 pub found-more : (k : ℕ) (f : ℕ → Found) → foundOver k f ≡ Absent → f k ≡ Absent → foundOver (k + 1) f ≡ Absent
 unfolding foundOver
 found-more k f p q = rw (add-one, p) q
+
+pub found-all : (n : ℕ) (f : ℕ → Found) → ((k : ℕ) → k < n → f k ≡ Absent) → foundOver n f ≡ Absent
+unfolding foundOver
+found-all zero f h = refl
+found-all (suc n) f h = rw (found-all n f (λ k l. h k (omega arith))) (h n (omega arith))
 
 stays : (f g : Found) → (f ≡ Absent → ⊥) → (f orElse g) ≡ f
 stays Absent g h = absurd (h refl)

@@ -1,0 +1,101 @@
+-- Look up finds: demand 2 on look up holds of the definitions, and the promises of check and look up allow one answer only.
+-- Assumes nothing.
+use Prim.Native.Nat.{ℕ, _*_, _<_}
+use mathlib.Core.Path.{_≡_, refl, sym, ap, _∙_}
+use mathlib.Core.Bool.{Bool, true, false, cond}
+use mathlib.Core.Logic.{_↔_}
+use mathlib.Core.List.{List}
+use native.Mathlib.Omega.{arith}
+use borrow.Author.Tests.{ne-eqb}
+use lib.ListN.{length, take, drop}
+use Rattle.rules.specs.declared.Verdict.{Verdict}
+use Rattle.rules.specs.declared.Verdict.the-variants.{Accepted}
+use Rattle.rules.specs.declared.Found.{Found}
+use Rattle.rules.specs.declared.Found.the-variants.{Absent}
+use Rattle.rules.specs.Answers.{checkAnswer, foundAnswer}
+use Rattle.rules.proofs.Order.{then-accepted}
+use Rattle.rules.proofs.Settled.{check-settled, found-settled}
+use Rattle.segment.specs.declared.record.Record.{Record}
+use Rattle.segment.specs.Format.{v3, headerOf, recordCount, recordNo}
+use Rattle.segment.specs.Table.{goodTable, tableVerdict, allows}
+use Rattle.segment.specs.Keys.{keyOf, eqList}
+use Rattle.segment.specs.Check.{keyNo, segmentVerdict, checked, checkOf}
+use Rattle.segment.specs.Meets.{Meets}
+use Rattle.segment.specs.LookUp.{keyVerdict, recordFound, foundOver, foundNo, foundIn, foundUnder, lookedUp, lookUpOf, extentsPart}
+use Rattle.order.proofs.Equal.{eqList-iff, unequal}
+use Rattle.find.proofs.Finding.{never-absent, found-all, found-first}
+use Rattle.demands.specs.PCases.{accepted, absent}
+use Rattle.demands.specs.LookUps.{HasKey, Finds}
+use Rattle.demands.proofs.TablesHeader.{table-book}
+use Rattle.demands.proofs.Rulebook.{answer-is, checked-iff}
+
+-- a segment that check accepts: the table is good, and 1 to 12 hold
+accepted-parts : (pairs s : List ℕ) → checkOf pairs s ≡ accepted → (tableVerdict pairs ≡ Accepted) × (segmentVerdict v3 pairs s ≡ Accepted)
+unfolding checked
+accepted-parts pairs s e = then-accepted (tableVerdict pairs) (segmentVerdict v3 pairs s) .0 (answer-is pairs s Accepted .0 e)
+
+-- the part that is handed back for a record that is not gone
+live-part : (r : Record) (s : List ℕ) → (r .flags ≡ 1 → ⊥)
+    → extentsPart (recordFound r) s ≡ take (16 * r .«extent_count») (drop (r .«extents_offset» .0) s)
+unfolding recordFound extentsPart
+live-part r s n = rw (ne-eqb (r .flags) 1 n)
+
+module _ (pairs s : List ℕ) (hash : ℕ) (digest : List ℕ) (e : checkOf pairs s ≡ accepted) (a : allows pairs hash (length digest) ≡ true) where
+  key : List ℕ
+  key = keyOf hash digest
+
+  at : ℕ → Found
+  at = foundNo v3 s (headerOf s) key
+
+  looked : lookedUp pairs s hash digest ≡ foundOver (recordCount (headerOf s)) at
+  unfolding lookedUp foundUnder keyVerdict foundIn at key
+  looked = let p = accepted-parts pairs s e in rw (p .0, a, p .1)
+
+  -- a record with the key, and one without it
+  here : (k : ℕ) → HasKey s hash digest k → at k ≡ recordFound (recordNo v3 s (headerOf s) k)
+  unfolding at foundNo key
+  here k h = rw (eqList-iff (keyNo v3 s (headerOf s) k) (keyOf hash digest) .1 (h .key))
+
+  elsewhere : (k : ℕ) → (keyNo v3 s (headerOf s) k ≡ keyOf hash digest → ⊥) → at k ≡ Absent
+  unfolding at foundNo key
+  elsewhere k n = rw (sym (unequal (keyNo v3 s (headerOf s) k) (keyOf hash digest) n))
+
+  one : (j k : ℕ) → HasKey s hash digest j → HasKey s hash digest k → j ≡ k
+  one j k p q =
+      let m : Meets v3 pairs s = checked-iff pairs s (table-book pairs .0 (accepted-parts pairs s e .0)) .0 (answer-is pairs s Accepted .0 e) in
+      m .distinct j k (p .within) (q .within) (p .key ∙ sym (q .key))
+
+  none-found : ((k : ℕ) → HasKey s hash digest k → ⊥) → lookedUp pairs s hash digest ≡ Absent
+  none-found n = looked ∙ found-all (recordCount (headerOf s)) at (λ k l. elsewhere k (λ q. n k (record { within = l; key = q })))
+
+  that-found : (k : ℕ) → HasKey s hash digest k → lookedUp pairs s hash digest ≡ recordFound (recordNo v3 s (headerOf s) k)
+  that-found k h =
+      let before : foundOver k at ≡ Absent = found-all k at (λ j l. elsewhere j (λ q. absurd (less j l q))) in
+      looked ∙ found-first (recordCount (headerOf s)) k at (h .within) before (λ z. never-absent (recordNo v3 s (headerOf s) k) (sym (here k h) ∙ z)) ∙ here k h
+    where
+      less : (j : ℕ) → j < k → keyNo v3 s (headerOf s) j ≡ keyOf hash digest → ⊥
+      less j l q =
+          let w : k < recordCount (headerOf s) = h .within in
+          let z : j ≡ k = one j k (record { within = omega arith; key = q }) h in
+          omega arith
+
+  pub look-up-finds : Finds pairs s hash digest
+  unfolding lookUpOf
+  look-up-finds = record {
+    absent-iff = (
+      λ q k h. never-absent (recordNo v3 s (headerOf s) k) (sym (that-found k h) ∙ found-settled (lookedUp pairs s hash digest) Absent q),
+      λ n. ap foundAnswer (none-found n),
+    );
+    that-record = λ k h. ap foundAnswer (that-found k h);
+    its-extents = λ k h l. ap (λ (f : Found). extentsPart f s) (that-found k h) ∙ live-part (recordNo v3 s (headerOf s) k) s l;
+    only-one = one;
+  }
+
+-- ---- two answers that one promise allows are equal
+
+pub one-verdict : (pairs s : List ℕ) (v w : Verdict) → checkAnswer v ≡ checkOf pairs s → checkAnswer w ≡ checkOf pairs s → v ≡ w
+one-verdict pairs s v w p q = check-settled v w (p ∙ sym q)
+
+pub one-found : (pairs s : List ℕ) (hash : ℕ) (digest : List ℕ) (f g : Found) → foundAnswer f ≡ lookUpOf pairs s hash digest
+    → foundAnswer g ≡ lookUpOf pairs s hash digest → f ≡ g
+one-found pairs s hash digest f g p q = found-settled f g (p ∙ sym q)

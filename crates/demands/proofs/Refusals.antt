@@ -1,0 +1,165 @@
+-- Each refusal of check is given exactly when its rule is broken and every rule before it in the order is kept. One way by what check answers there;
+-- the other by a walk through the rules, which comes to the end or to a refusal that is given so.
+-- Assumes nothing.
+use Prim.Native.Nat.{ℕ, _<_}
+use mathlib.Core.Path.{_≡_, refl, _∙_}
+use mathlib.Core.Bool.{Bool, true, false}
+use mathlib.Core.Logic.{_↔_, Iff·rfl, Dec·not-not, by-cases}
+use mathlib.Core.List.{List}
+use native.Mathlib.Decide.{ℕ-discrete}
+use Rattle.rules.specs.declared.Refusal.{Refusal}
+use Rattle.rules.specs.declared.Refusal.the-variants.{
+  Size,
+  Magic,
+  Version,
+  Header as HeaderWrong,
+  Layout,
+  Checksum,
+  Record as RecordWrong,
+  Digest,
+  Extents,
+  Total,
+  Visibility,
+  Duplicate,
+  Table,
+}
+use Rattle.rules.specs.declared.Verdict.{Verdict}
+use Rattle.rules.specs.declared.Verdict.the-variants.{Accepted, Refused}
+use Rattle.rules.specs.Rules.{firstOver}
+use Rattle.rules.specs.Answers.{refused}
+use Rattle.rules.proofs.Order.{first-accepted, first-is-lowest, Lowest}
+use Rattle.segment.specs.Format.{v3, headerOf, recordCount}
+use Rattle.segment.specs.Table.{goodTable}
+use Rattle.segment.specs.Keys.{freshKey}
+use Rattle.segment.specs.Check.{recordVerdict, keyNo, checked, checkOf}
+use Rattle.segment.specs.Meets.{MarksMeet, DigestMeets, RecordMeets}
+use Rattle.demands.specs.Refusals.{
+  MagicMeets,
+  VersionMeets,
+  recordIn,
+  UpToSize,
+  UpToHeader,
+  UpToLayout,
+  UpToChecksum,
+  UpToRecords,
+  UpToVisibility,
+  Reached,
+  Given,
+}
+use Rattle.demands.proofs.Rows.{never-both, decided}
+use Rattle.demands.proofs.TablesHeader.{size-book, header-book, layout-book, checksum-book}
+use Rattle.demands.proofs.TablesRecord.{marks-book, digest-book, extents-book, record-book}
+use Rattle.demands.proofs.TablesWhole.{visibility-book, earlier-decided, fresh-book}
+use Rattle.demands.proofs.Rulebook.{answer-is}
+use Rattle.demands.proofs.Stops.{at-keys, given-refused}
+
+-- a run is accepted at each place, or there is a lowest at which it is not
+by-run : {C : Type 0} (n : ℕ) (f : ℕ → Verdict) → (((k : ℕ) → k < n → f k ≡ Accepted) → C) → ((r : Refusal) → Lowest n f r → C) → C
+by-run {C} n f all some = go (firstOver n f) refl
+  where
+    go : (v : Verdict) → firstOver n f ≡ v → C
+    go Accepted e = all (first-accepted n f .0 e)
+    go (Refused r) e = some r (first-is-lowest n f r .0 e)
+
+-- where the walk comes to
+data Judged (pairs s : List ℕ) : Type 0 where
+  accepts : checked pairs s ≡ Accepted → Judged pairs s
+  gives : (r : Refusal) → Given pairs s r → Judged pairs s
+
+-- ---- the walk, from its last step to its first
+
+module _ (pairs s : List ℕ) where
+  first-duplicate : UpToVisibility pairs s → (r : Refusal) → Lowest (recordCount (headerOf s)) (freshKey (keyNo v3 s (headerOf s))) r → Judged pairs s
+  first-duplicate u r l =
+      let fresh = fresh-book v3 s (headerOf s) in
+      let stands = Dec·not-not (earlier-decided v3 s (headerOf s) (l .at)) .0 (λ n. never-both (fresh (l .at) .1 n) (l .here)) in
+      gives (Duplicate (l .at)) (u, l .within, stands, λ j i. fresh j .0 (l .before j i))
+
+  from-keys : UpToVisibility pairs s → Judged pairs s
+  from-keys u =
+      let fresh = freshKey (keyNo v3 s (headerOf s)) in
+      by-run (recordCount (headerOf s)) fresh
+      (λ all. accepts (at-keys pairs s u ∙ first-accepted (recordCount (headerOf s)) fresh .1 all))
+      (first-duplicate u)
+
+  from-visibility : UpToRecords pairs s → Judged pairs s
+  from-visibility u =
+      by-cases (decided (visibility-book v3 s (headerOf s)))
+      (λ m. from-keys (record { before = u; visibility = m }))
+      (λ n. gives Visibility (u, n))
+
+  -- a record whose rules are not all kept
+  module _ (k : ℕ) (u : Reached pairs s k) (n : ¬ RecordMeets v3 pairs s (headerOf s) (recordIn s k)) where
+    from-extents : MarksMeet (headerOf s) (recordIn s k) → DigestMeets pairs (headerOf s) (recordIn s k) → Judged pairs s
+    from-extents marks digest =
+        by-cases (decided (extents-book (headerOf s) (recordIn s k) k))
+        (λ m. gives (Total k) (u, marks, digest, m, λ total. n (record { marks = marks; digest = digest; extents = m; total = total })))
+        (λ b. gives (Extents k) (u, marks, digest, b))
+
+    from-digest : MarksMeet (headerOf s) (recordIn s k) → Judged pairs s
+    from-digest marks =
+        by-cases (decided (digest-book pairs (headerOf s) (recordIn s k) k)) (from-extents marks) (λ b. gives (Digest k) (u, marks, b))
+
+    from-marks : Judged pairs s
+    from-marks = by-cases (decided (marks-book (headerOf s) (recordIn s k) k)) from-digest (λ b. gives (RecordWrong k) (u, b))
+
+  first-bad : UpToChecksum pairs s → (r : Refusal) → Lowest (recordCount (headerOf s)) (recordVerdict v3 pairs s (headerOf s)) r → Judged pairs s
+  first-bad u r l =
+      let book = record-book v3 pairs s (headerOf s) in
+      let reached : Reached pairs s (l .at) = record { before = u; within = l .within; earlier = λ j i. book j .0 (l .before j i) } in
+      from-marks (l .at) reached (λ m. never-both (book (l .at) .1 m) (l .here))
+
+  from-records : UpToChecksum pairs s → Judged pairs s
+  from-records u =
+      by-run (recordCount (headerOf s)) (recordVerdict v3 pairs s (headerOf s))
+      (λ all. from-visibility (record { before = u; each = λ j i. record-book v3 pairs s (headerOf s) j .0 (all j i) }))
+      (first-bad u)
+
+  from-checksum : UpToLayout pairs s → Judged pairs s
+  from-checksum u =
+      by-cases (decided (checksum-book s)) (λ m. from-records (record { before = u; checksum = m })) (λ n. gives Checksum (u, n))
+
+  from-layout : UpToHeader pairs s → Judged pairs s
+  from-layout u =
+      by-cases (decided (layout-book s (headerOf s)))
+      (λ m. from-checksum (record { before = u; layout = m }))
+      (λ n. gives Layout (u, n))
+
+  from-header : UpToSize pairs s → MagicMeets s → VersionMeets s → Judged pairs s
+  from-header u magic version =
+      by-cases (decided (header-book v3 (headerOf s) magic version))
+      (λ m. from-layout (record { before = u; magic = magic; version = version; header = m }))
+      (λ n. gives HeaderWrong (u, magic, version, n))
+
+  from-version : UpToSize pairs s → MagicMeets s → Judged pairs s
+  from-version u magic =
+      by-cases (ℕ-discrete (headerOf s .version) (v3 .version)) (from-header u magic) (λ n. gives Version (u, magic, n))
+
+  from-magic : UpToSize pairs s → Judged pairs s
+  from-magic u = by-cases (ℕ-discrete (headerOf s .magic) (v3 .magic)) (from-version u) (λ n. gives Magic (u, n))
+
+  from-size : goodTable pairs ≡ true → Judged pairs s
+  from-size g = by-cases (decided (size-book s)) (λ m. from-magic (record { table = g; size = m })) (λ n. gives Size (g, n))
+
+  judged : Judged pairs s
+  judged = go (goodTable pairs) refl
+    where
+      go : (b : Bool) → goodTable pairs ≡ b → Judged pairs s
+      go true e = from-size e
+      go false e = gives Table e
+
+  -- ---- the theorem
+
+  settled : (r : Refusal) → checked pairs s ≡ Refused r → Judged pairs s → Given pairs s r
+  settled r e (accepts a) = absurd (never-both a e)
+  settled r e (gives q g) =
+      let f = given-refused pairs s q g in
+      let same : q ≡ r = cc in
+      rw same at g
+
+pub refused-iff : (pairs s : List ℕ) (r : Refusal) → (checked pairs s ≡ Refused r) ↔ Given pairs s r
+refused-iff pairs s r = (λ e. settled pairs s r e (judged pairs s), given-refused pairs s r)
+
+-- in document 01's numbers
+pub refused-numbers : (pairs s : List ℕ) (r : Refusal) → (checkOf pairs s ≡ refused r) ↔ Given pairs s r
+refused-numbers pairs s r = simp (answer-is pairs s (Refused r), refused-iff pairs s r) Iff·rfl

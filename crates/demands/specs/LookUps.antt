@@ -1,0 +1,31 @@
+-- Document 01, demand 2 on look up: of an accepted segment and a key that the table allows it says absent exactly when no record has the key, and
+-- otherwise gives that record; no two records have it.
+-- Assumes nothing: these are definitions.
+use Prim.Native.Nat.{ℕ, _*_, _<_}
+use mathlib.Core.Path.{_≡_}
+use mathlib.Core.Logic.{_↔_}
+use mathlib.Core.List.{List}
+use lib.ListN.{take, drop}
+use Rattle.rules.specs.Answers.{foundAnswer}
+use Rattle.segment.specs.Format.{v3, extentSize, headerOf, recordCount, recordNo}
+use Rattle.segment.specs.Keys.{keyOf}
+use Rattle.segment.specs.Check.{keyNo}
+use Rattle.segment.specs.LookUp.{recordFound, lookedUp, lookUpOf, extentsPart}
+use Rattle.demands.specs.PCases.{absent}
+
+-- record k of the segment has the key of a hash id and a digest
+pub record HasKey (s : List ℕ) (hash : ℕ) (digest : List ℕ) (k : ℕ) : Type 0 where
+  pub within : k < recordCount (headerOf s)
+  pub key : keyNo v3 s (headerOf s) k ≡ keyOf hash digest
+
+pub record Finds (pairs s : List ℕ) (hash : ℕ) (digest : List ℕ) : Type 0 where
+  -- absent exactly when no record has the key
+  pub absent-iff : lookUpOf pairs s hash digest ≡ absent ↔ ((k : ℕ) → HasKey s hash digest k → ⊥)
+  -- otherwise that record's answer, field for field
+  pub that-record : (k : ℕ) → HasKey s hash digest k → lookUpOf pairs s hash digest ≡ foundAnswer (recordFound (recordNo v3 s (headerOf s) k))
+  -- and, if it is not gone, the part that is handed back is its extents' bytes
+  pub its-extents : (k : ℕ) → HasKey s hash digest k → (recordNo v3 s (headerOf s) k .flags ≡ 1 → ⊥)
+      → extentsPart (lookedUp pairs s hash digest) s
+      ≡ take (extentSize * recordNo v3 s (headerOf s) k .«extent_count») (drop (recordNo v3 s (headerOf s) k .«extents_offset» .0) s)
+  -- there is at most one
+  pub only-one : (j k : ℕ) → HasKey s hash digest j → HasKey s hash digest k → j ≡ k
