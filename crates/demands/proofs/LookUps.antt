@@ -8,11 +8,14 @@ use mathlib.Core.List.{List}
 use native.Mathlib.Omega.{arith}
 use borrow.Author.Tests.{ne-eqb}
 use lib.ListN.{length, take, drop}
+use Rattle.rules.specs.declared.Refusal.{Refusal}
+use Rattle.rules.specs.declared.Refusal.the-variants.{Table, Key}
 use Rattle.rules.specs.declared.Verdict.{Verdict}
-use Rattle.rules.specs.declared.Verdict.the-variants.{Accepted}
+use Rattle.rules.specs.declared.Verdict.the-variants.{Accepted, Refused as Stopped}
 use Rattle.rules.specs.declared.Found.{Found}
-use Rattle.rules.specs.declared.Found.the-variants.{Absent}
+use Rattle.rules.specs.declared.Found.the-variants.{Absent, Refused as NotFound}
 use Rattle.rules.specs.Answers.{checkAnswer, foundAnswer}
+use Rattle.rules.specs.Rules.{after}
 use Rattle.rules.proofs.Order.{then-accepted}
 use Rattle.rules.proofs.Settled.{check-settled, found-settled}
 use Rattle.segment.specs.declared.record.Record.{Record}
@@ -23,11 +26,13 @@ use Rattle.segment.specs.Check.{keyNo, segmentVerdict, checked, checkOf}
 use Rattle.segment.specs.Meets.{Meets}
 use Rattle.segment.specs.LookUp.{keyVerdict, recordFound, foundOver, foundNo, foundIn, foundUnder, lookedUp, lookUpOf, extentsPart}
 use Rattle.order.proofs.Equal.{eqList-iff, unequal}
-use Rattle.find.proofs.Finding.{never-absent, found-all, found-first}
+use Rattle.find.proofs.Finding.{never-absent, never-refused, found-all, found-first}
 use Rattle.demands.specs.PCases.{accepted, absent}
-use Rattle.demands.specs.LookUps.{HasKey, Finds}
+use Rattle.demands.specs.LookUps.{HasKey, Finds, LookGiven, by-table, by-key, by-segment}
+use Rattle.demands.specs.Refusals.{Given}
 use Rattle.demands.proofs.TablesHeader.{table-book}
-use Rattle.demands.proofs.Rulebook.{answer-is, checked-iff}
+use Rattle.demands.proofs.Rulebook.{answer-is, under-table, checked-iff}
+use Rattle.demands.proofs.Refusals.{refused-iff}
 
 -- a segment that check accepts: the table is good, and 1 to 12 hold
 accepted-parts : (pairs s : List ℕ) → checkOf pairs s ≡ accepted → (tableVerdict pairs ≡ Accepted) × (segmentVerdict v3 pairs s ≡ Accepted)
@@ -90,6 +95,60 @@ module _ (pairs s : List ℕ) (hash : ℕ) (digest : List ℕ) (e : checkOf pair
     its-extents = λ k h l. ap (λ (f : Found). extentsPart f s) (that-found k h) ∙ live-part (recordNo v3 s (headerOf s) k) s l;
     only-one = one;
   }
+
+-- ---- each refusal of look up exactly when
+
+by-bool : (b : Bool) (P : Type 0) → (b ≡ true → P) → (b ≡ false → P) → P
+by-bool true P f g = f refl
+by-bool false P f g = g refl
+
+module _ (pairs s : List ℕ) (hash : ℕ) (digest : List ℕ) where
+  looks : Found
+  looks = lookedUp pairs s hash digest
+
+  under-bad : goodTable pairs ≡ false → looks ≡ NotFound Table
+  unfolding looks lookedUp tableVerdict
+  under-bad g = rw g
+
+  module _ (g : goodTable pairs ≡ true) where
+    no-key : allows pairs hash (length digest) ≡ false → looks ≡ NotFound Key
+    unfolding looks lookedUp foundUnder keyVerdict tableVerdict
+    no-key a = rw (g, a)
+
+    module _ (a : allows pairs hash (length digest) ≡ true) where
+      as-check : looks ≡ after NotFound (segmentVerdict v3 pairs s) (foundIn v3 s (headerOf s) (keyOf hash digest))
+      unfolding looks lookedUp foundUnder keyVerdict tableVerdict
+      as-check = rw (g, a)
+
+      checks : (r : Refusal) → segmentVerdict v3 pairs s ≡ Stopped r ↔ Given pairs s r
+      checks r = rw (← under-table pairs s g) (refused-iff pairs s r)
+
+      from-check : (r : Refusal) → looks ≡ NotFound r → Given pairs s r
+      from-check r e = go (segmentVerdict v3 pairs s) refl
+        where
+          go : (v : Verdict) → segmentVerdict v3 pairs s ≡ v → Given pairs s r
+          go Accepted q = absurd (never-refused s (headerOf s) (keyOf hash digest) r (sym (as-check ∙ rw q) ∙ e))
+          go (Stopped x) q =
+              let z : NotFound x ≡ NotFound r = sym (as-check ∙ rw q) ∙ e in
+              let same : x ≡ r = cc in
+              checks r .0 (q ∙ ap Stopped same)
+
+  given : (r : Refusal) → looks ≡ NotFound r → LookGiven pairs s hash digest r
+  given r e =
+      by-bool (goodTable pairs) (LookGiven pairs s hash digest r)
+      (λ g.
+      by-bool (allows pairs hash (length digest)) (LookGiven pairs s hash digest r) (λ a. by-segment g a (from-check g a r e))
+      (λ a. let z : NotFound Key ≡ NotFound r = sym (no-key g a) ∙ e in let same : Key ≡ r = cc in rw (← same) (by-key g a)))
+      (λ g. let z : NotFound Table ≡ NotFound r = sym (under-bad g) ∙ e in let same : Table ≡ r = cc in rw (← same) (by-table g))
+
+  refuses : (r : Refusal) → LookGiven pairs s hash digest r → looks ≡ NotFound r
+  refuses r (by-table g) = under-bad g
+  refuses r (by-key g a) = no-key g a
+  refuses r (by-segment g a n) = as-check g a ∙ rw (checks g a r .1 n)
+
+  pub look-refused-iff : (r : Refusal) → lookedUp pairs s hash digest ≡ NotFound r ↔ LookGiven pairs s hash digest r
+  unfolding looks
+  look-refused-iff r = (given r, refuses r)
 
 -- ---- two answers that one promise allows are equal
 

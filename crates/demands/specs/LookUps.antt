@@ -3,15 +3,20 @@
 -- Assumes nothing: these are definitions.
 use Prim.Native.Nat.{ℕ, _*_, _<_}
 use mathlib.Core.Path.{_≡_}
+use mathlib.Core.Bool.{true, false}
 use mathlib.Core.Logic.{_↔_}
 use mathlib.Core.List.{List}
-use lib.ListN.{take, drop}
+use lib.ListN.{length, take, drop}
+use Rattle.rules.specs.declared.Refusal.{Refusal}
+use Rattle.rules.specs.declared.Refusal.the-variants.{Table, Key}
 use Rattle.rules.specs.Answers.{foundAnswer}
 use Rattle.segment.specs.Format.{v3, extentSize, headerOf, recordCount, recordNo}
+use Rattle.segment.specs.Table.{goodTable, allows}
 use Rattle.segment.specs.Keys.{keyOf}
 use Rattle.segment.specs.Check.{keyNo}
 use Rattle.segment.specs.LookUp.{recordFound, lookedUp, lookUpOf, extentsPart}
 use Rattle.demands.specs.PCases.{absent}
+use Rattle.demands.specs.Refusals.{Given}
 
 -- record k of the segment has the key of a hash id and a digest
 pub record HasKey (s : List ℕ) (hash : ℕ) (digest : List ℕ) (k : ℕ) : Type 0 where
@@ -29,3 +34,9 @@ pub record Finds (pairs s : List ℕ) (hash : ℕ) (digest : List ℕ) : Type 0 
       ≡ take (extentSize * recordNo v3 s (headerOf s) k .«extent_count») (drop (recordNo v3 s (headerOf s) k .«extents_offset» .0) s)
   -- there is at most one
   pub only-one : (j k : ℕ) → HasKey s hash digest j → HasKey s hash digest k → j ≡ k
+
+-- when look up gives a refusal: 14, then 17, then as check
+pub data LookGiven (pairs s : List ℕ) (hash : ℕ) (digest : List ℕ) : Refusal → Type 0 where
+  by-table : goodTable pairs ≡ false → LookGiven pairs s hash digest Table
+  by-key : goodTable pairs ≡ true → allows pairs hash (length digest) ≡ false → LookGiven pairs s hash digest Key
+  by-segment : {r : Refusal} → goodTable pairs ≡ true → allows pairs hash (length digest) ≡ true → Given pairs s r → LookGiven pairs s hash digest r

@@ -91,6 +91,43 @@ found-first (suc n) k f h p q =
     (λ (l : k < n). rw (found-first n k f l p q) (stays (f k) (f n) q))
     (eq-or-lt-of-le (le-of-suc-le-suc h))
 
+-- ---- a search refuses nothing
+
+pub data Told : Found → Type 0 where
+  absent : Told Absent
+  gone : (v d : ℕ) (o : Source) → Told (Gone v d o)
+  present : (v d : ℕ) (o : Source) (t a n : ℕ) → Told (Present v d o t a n)
+
+told-else : {f g : Found} → Told f → Told g → Told (f orElse g)
+told-else absent t = t
+told-else (gone v d o) t = gone v d o
+told-else (present v d o t a n) u = present v d o t a n
+
+told-cond : (b : Bool) {f g : Found} → Told f → Told g → Told (cond b f g)
+told-cond true t u = t
+told-cond false t u = u
+
+told-no : (s : List ℕ) (h : Header) (key : List ℕ) (k : ℕ) → Told (foundNo v3 s h key k)
+unfolding foundNo recordFound
+told-no s h key k =
+    told-cond (eqList (keyNo v3 s h k) key)
+    (told-cond (isGone (recordNo v3 s h k)) (gone _ _ _) (present _ _ _ _ _ _))
+    absent
+
+told-over : (n : ℕ) (f : ℕ → Found) → ((k : ℕ) → Told (f k)) → Told (foundOver n f)
+unfolding foundOver
+told-over zero f t = absent
+told-over (suc n) f t = told-else (told-over n f t) (t n)
+
+told-refused : {f : Found} {r : Refusal} → Told f → f ≡ Refused r → ⊥
+told-refused absent e = let z : _≡_ {A = ℕ} 0 1 = cc in omega arith
+told-refused (gone v d o) e = let z : _≡_ {A = ℕ} 0 1 = cc in omega arith
+told-refused (present v d o t a n) e = let z : _≡_ {A = ℕ} 0 1 = cc in omega arith
+
+pub never-refused : (s : List ℕ) (h : Header) (key : List ℕ) (r : Refusal) → foundIn v3 s h key ≡ Refused r → ⊥
+unfolding foundIn
+never-refused s h key r = told-refused (told-over (recordCount h) (foundNo v3 s h key) (told-no s h key))
+
 -- ---- a segment's records
 
 -- a search has come to k, and no record below it has the key
