@@ -104,6 +104,13 @@ fn check_record(pairs: &[u64], seg: &[u8], h: Header, r: Record, k: usize) -> Ve
     extents::check_slices(seg, h, r, k)
 }
 
+// What a record counts with towards the header's visibility: its own, gone or not.
+fn counts_with(r: Record) -> u8
+    ensures { λ v. ⌜ v ≡ r .visibility ⌝ }
+{
+    r.visibility
+}
+
 fn larger(a: u8, b: u8) -> u8
     ensures { λ r. ⌜ r ≡ max a b ⌝ }
 {
@@ -126,7 +133,7 @@ pub fn check_records(pairs: &[u64], seg: &[u8], h: Header) -> Passed
             }
             Verdict::Accepted => {}
         }
-        largest = larger(largest, r.visibility);
+        largest = larger(largest, counts_with(r));
         k += 1;
     }
     Passed::Largest(largest)

@@ -1,5 +1,6 @@
 -- `accept::records::check_records` meets its contract: nothing is refused below k, and the largest visibility is that of the records below it.
-use Prim.Native.Nat.{_≤_, _-_}
+use Prim.Native.Nat.{_≤_, _-_, max}
+use mathlib.Core.Path.{ap, _∙_}
 use borrow.Author.Needs.{needs}
 use native.Mathlib.Omega.{arith}
 use Rattle.accept.proofs.Whole.{Passing, pass-start, pass-refused, pass-more, pass-done}
@@ -19,8 +20,9 @@ refused c =
 
 more : tie.Need-loop-again Inv-loop μ-loop
 more c =
-    let at = c .before .before .before .before in
-    (omega arith, pass-more _ _ _ _ _ _ (at .before .before .loop .inv .1) (at .at .ensures) _ (cc) (c .larger .ensures))
+    let at = c .before .before .before .before .before in
+    let largest = at .before .before .loop .largest in
+    (omega arith, pass-more _ _ _ _ _ _ (at .before .before .loop .inv .1) (at .at .ensures) _ (cc) (c .larger .ensures ∙ ap (max largest) (c .before .«counts-with» .ensures)))
 
 pub check-records-spec : {M : Type 1} → statement M
 check-records-spec =
@@ -36,6 +38,7 @@ check-records-spec =
     (λ c. search needs)
     refused
     (λ c. search needs)
+    (λ c κs. search needs)
     (λ c κs. search needs)
     (λ c. search needs)
     (λ c. search needs)
