@@ -1,13 +1,12 @@
 -- The rows of a record's tables, 9 and 10, and the sum over its extents. Each premise is as the code's test or call leaves it.
 -- Assumes nothing.
-use Prim.Native.Nat.{ℕ, zero, suc, _+_, _-_, _*_, _%_, _≤_, _<_}
-use mathlib.Core.Path.{_≡_, refl, sym, ap, _∙_}
-use mathlib.Core.Bool.{Bool, true, false, not, cond, _&&_}
-use mathlib.Core.List.{List, [], _∷_}
+use Prim.Native.Nat.{ℕ, suc, _+_, _-_, _*_, _%_, _≤_, _<_}
+use mathlib.Core.Path.{_≡_, refl, _∙_}
+use mathlib.Core.Bool.{Bool, true, false}
+use mathlib.Core.List.{List, _∷_}
 use native.Mathlib.Omega.{arith}
 use borrow.Author.Tests.{ne-eqb, leb-true}
 use lib.Dec.{eqb, leb}
-use lib.ListN.{length}
 use Rattle.numbers.specs.Numbers.{numAt}
 use Rattle.rules.specs.declared.Refusal.the-variants.{Extents, Total}
 use Rattle.rules.specs.declared.Verdict.the-variants.{Accepted, Refused}
@@ -17,9 +16,8 @@ use Rattle.segment.specs.declared.record.Record.{Record}
 use Rattle.segment.specs.declared.extent.Extent.{Extent}
 use Rattle.segment.specs.Format.{v3, extentsOffset, extentCount, extentOf, extentsAt, extentsIn}
 use Rattle.segment.specs.Check.{allFit, sumLengths, goneExtents, liveExtents, extentsVerdict, liveTotal, totalVerdict}
-use Rattle.accept.specs.declared.extents.Sum.{Sum}
 use Rattle.accept.specs.declared.extents.Sum.the-variants.{Of, Past}
-use Rattle.accept.specs.Told.{Laid, summed}
+use Rattle.accept.specs.Told.{summed}
 
 -- ---- 9
 

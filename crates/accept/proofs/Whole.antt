@@ -1,15 +1,14 @@
 -- How the tables stand in order: one record, the pass over all of them, what follows the layout, and the whole.
 -- Assumes nothing.
-use Prim.Native.Nat.{ℕ, _+_, _-_, _*_, _%_, _≤_, _<_, max}
+use Prim.Native.Nat.{ℕ, _+_, _*_, _%_, _≤_, _<_, max}
 use mathlib.Core.Path.{_≡_, refl, sym, ap, _∙_}
-use mathlib.Core.Bool.{Bool, true, false, not}
-use mathlib.Core.List.{List, _++_}
+use mathlib.Core.Bool.{true, false}
+use mathlib.Core.List.{List}
 use native.Mathlib.Numerals.{add-one}
 use native.Mathlib.Omega.{arith}
 use borrow.Author.Tests.{leb-true, eqb-true, eq-eqb, ne-eqb}
 use lib.Dec.{leb, eqb}
-use lib.ListN.{length, take, replicate}
-use lib.Seq.{take-at}
+use lib.ListN.{length}
 use Rattle.rules.specs.declared.Refusal.{Refusal}
 use Rattle.rules.specs.declared.Refusal.the-variants.{Size, Layout, Digest, Visibility, Table as TableWrong}
 use Rattle.rules.specs.declared.Verdict.{Verdict}
@@ -55,7 +54,7 @@ then-assoc (Refused x) b c = refl
 
 -- ---- one record
 
-module _ (pairs s : List ℕ) (h : Header) (r : Record) (k : ℕ) where
+module _ (pairs : List ℕ) (h : Header) (r : Record) (k : ℕ) where
   pub marks-stop : (x : Refusal) → marksVerdict h r k ≡ Refused x → Refused x ≡ identityRules pairs h r k
   unfolding identityRules
   marks-stop x e = rw e
@@ -64,6 +63,7 @@ module _ (pairs s : List ℕ) (h : Header) (r : Record) (k : ℕ) where
   unfolding identityRules
   marks-pass e f = rw e f
 
+module _ (s : List ℕ) (h : Header) (r : Record) (k : ℕ) where
   pub extents-stop : (x : Refusal) → extentsVerdict h r k ≡ Refused x → Refused x ≡ slicesRules s h r k
   unfolding slicesRules
   extents-stop x e = rw e
@@ -72,6 +72,7 @@ module _ (pairs s : List ℕ) (h : Header) (r : Record) (k : ℕ) where
   unfolding slicesRules
   extents-pass e f = rw e f
 
+module _ (pairs s : List ℕ) (h : Header) (r : Record) (k : ℕ) where
   in-two : recordRules v3 pairs s h r k ≡ (identityRules pairs h r k then slicesRules s h r k)
   unfolding recordRules identityRules slicesRules
   in-two = sym (then-assoc (marksVerdict h r k) (digestVerdict pairs h r k) (extentsVerdict h r k then totalVerdict v3 s r k))

@@ -2,7 +2,7 @@
 -- Assumes nothing.
 use Prim.Native.Nat.{ℕ, _*_, _<_}
 use mathlib.Core.Path.{_≡_, refl, sym, ap, _∙_}
-use mathlib.Core.Bool.{Bool, true, false, cond}
+use mathlib.Core.Bool.{Bool, true, false}
 use mathlib.Core.Logic.{_↔_}
 use mathlib.Core.List.{List}
 use native.Mathlib.Omega.{arith}
@@ -21,13 +21,13 @@ use Rattle.rules.proofs.Settled.{check-settled, found-settled}
 use Rattle.segment.specs.declared.record.Record.{Record}
 use Rattle.segment.specs.Format.{v3, headerOf, recordCount, recordNo}
 use Rattle.segment.specs.Table.{goodTable, tableVerdict, allows}
-use Rattle.segment.specs.Keys.{keyOf, eqList}
+use Rattle.segment.specs.Keys.{keyOf}
 use Rattle.segment.specs.Check.{keyNo, segmentVerdict, checked, checkOf}
 use Rattle.segment.specs.Meets.{Meets}
 use Rattle.segment.specs.LookUp.{keyVerdict, recordFound, foundOver, foundNo, foundIn, foundUnder, lookedUp, lookUpOf, extentsPart}
 use Rattle.order.proofs.Equal.{eqList-iff, unequal}
 use Rattle.find.proofs.Finding.{never-absent, never-refused, found-all, found-first}
-use Rattle.demands.specs.PCases.{accepted, absent}
+use Rattle.demands.specs.PCases.{accepted}
 use Rattle.demands.specs.LookUps.{HasKey, Finds, LookGiven, by-table, by-key, by-segment}
 use Rattle.demands.specs.Refusals.{Given}
 use Rattle.demands.proofs.TablesHeader.{table-book}

@@ -3,13 +3,13 @@
 use Prim.Native.Nat.{ℕ}
 use mathlib.Core.Path.{_≡_, refl, sym, ap, _∙_}
 use mathlib.Core.List.{List, [], _∷_}
-use lib.ListN.{length, getD}
+use lib.ListN.{getD}
 use Rattle.rules.proofs.Settled.{taken, taken-refused}
 use Rattle.segment.specs.declared.record.Record.{Record}
 use Rattle.segment.specs.declared.step.Step.{Step}
 use Rattle.segment.specs.declared.step.Step.the-variants.{Row, Done, Refused}
 use Rattle.segment.specs.Format.{inFile}
-use Rattle.segment.specs.Walk.{recordValues, stepAnswer}
+use Rattle.segment.specs.Walk.{stepAnswer}
 
 -- the record of thirteen values
 recordFrom : List ℕ → Record

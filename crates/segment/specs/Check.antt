@@ -23,7 +23,6 @@ use Rattle.rules.specs.declared.Refusal.the-variants.{
   Visibility,
 }
 use Rattle.rules.specs.declared.Verdict.{Verdict}
-use Rattle.rules.specs.declared.Verdict.the-variants.{Accepted}
 use Rattle.rules.specs.Rules.{must, _then_, firstOver}
 use Rattle.rules.specs.Answers.{Answer, checkAnswer}
 use Rattle.segment.specs.declared.header.Header.{Header}

@@ -4,7 +4,7 @@
 --   headerOf, recordOf, extentOf, footerOf    the fields of each structure, read from a list of bytes
 --   recordAt    where record k begins
 -- Assumes nothing: these are definitions.
-use Prim.Native.Nat.{ℕ, zero, suc, _+_, _-_, _*_}
+use Prim.Native.Nat.{ℕ, zero, suc, _+_, _*_}
 use mathlib.Core.List.{List, [], _∷_}
 use lib.ListN.{length}
 use Rattle.numbers.specs.Numbers.{numAt}

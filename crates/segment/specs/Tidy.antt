@@ -5,7 +5,7 @@
 --   tidyForm          the tidy form of a meaning
 --   tidied, tidyOf    what tidy answers, and what it leaves in the output
 -- Assumes nothing: these are definitions.
-use Prim.Native.Nat.{ℕ, zero, suc, _+_, _-_, _*_, _%_, max}
+use Prim.Native.Nat.{ℕ, _+_, _-_, _*_, _%_, max}
 use mathlib.Core.Bool.{Bool, cond}
 use mathlib.Core.List.{List, [], _∷_, _++_}
 use lib.Dec.{leb, eqb}
@@ -23,7 +23,7 @@ use Rattle.rules.specs.Answers.{Answer, writtenAnswer}
 use Rattle.segment.specs.declared.header.Header.{Header}
 use Rattle.segment.specs.declared.header.Heading.{Heading}
 use Rattle.segment.specs.declared.extent.Extent.{Extent}
-use Rattle.segment.specs.Format.{Shape, v3, headerSize, extentSize, footerSize, fileLimit, inFile}
+use Rattle.segment.specs.Format.{Shape, v3, headerSize, extentSize, fileLimit, inFile}
 use Rattle.segment.specs.Keys.{lexLeq, sortBy}
 use Rattle.segment.specs.Check.{sumLengths, bloomPlace, checked}
 use Rattle.segment.specs.Meaning.{State, gone, live, Row, rowKey, rowExtents, Meaning, meaningOf}

@@ -18,7 +18,7 @@ use Rattle.rules.specs.declared.Written.{Written}
 use Rattle.rules.specs.Rules.{must, _then_, firstOver}
 use Rattle.segment.specs.declared.header.Heading.{Heading}
 use Rattle.segment.specs.declared.extent.Extent.{Extent}
-use Rattle.segment.specs.Format.{Shape, v3, recordLimit, blockEnd, inBlock}
+use Rattle.segment.specs.Format.{Shape, v3, recordLimit, inBlock}
 use Rattle.segment.specs.Table.{tableVerdict, allows}
 use Rattle.segment.specs.Keys.{keyOf, freshKey}
 use Rattle.segment.specs.Check.{extentFits, sumLengths}

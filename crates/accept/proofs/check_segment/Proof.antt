@@ -1,5 +1,4 @@
 -- `accept::check_segment` meets its contract: the size, and then the rules of the header that was read.
-use borrow.Author.Needs.{needs}
 use native.Mathlib.Omega.{arith}
 use Rattle.accept.proofs.Whole.{too-small, too-large, sized}
 use Rattle.accept.proofs.check_segment.Statement.{statement}

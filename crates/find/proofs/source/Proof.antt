@@ -1,5 +1,4 @@
 -- `find::source` meets its contract: two cases.
-use native.Mathlib.Omega.{arith}
 use Rattle.find.proofs.Finding.{no-source, a-source}
 use Rattle.find.proofs.source.Statement.{statement}
 use Rattle.find.proofs.source.Tie as tie

@@ -1,5 +1,4 @@
 -- `accept::extents::check_slices` meets its contract: the first table that refuses.
-use mathlib.Core.List.{[]}
 use borrow.Author.Needs.{needs}
 use Rattle.accept.proofs.Whole.{extents-stop, extents-pass}
 use Rattle.accept.proofs.extents.check_slices.Statement.{statement}
@@ -11,7 +10,7 @@ check-slices-spec =
     (tie.spec
     (λ c κs. search needs)
     (λ c. search needs)
-    (λ c. extents-stop [] _ _ _ _ _ (cc))
+    (λ c. extents-stop _ _ _ _ _ (cc))
     (λ c. search needs)
     (λ c κs. (search needs, cc))
-    (λ c. extents-pass [] _ _ _ _ (cc) (c .check-total .ensures)))
+    (λ c. extents-pass _ _ _ _ (cc) (c .check-total .ensures)))

@@ -1,5 +1,4 @@
 -- `accept::records::check_identity` meets its contract: the first table that refuses.
-use mathlib.Core.List.{[]}
 use borrow.Author.Needs.{needs}
 use Rattle.accept.proofs.Whole.{marks-stop, marks-pass}
 use Rattle.accept.proofs.records.check_identity.Statement.{statement}
@@ -11,7 +10,7 @@ check-identity-spec =
     (tie.spec
     (λ c κs. search needs)
     (λ c. search needs)
-    (λ c. marks-stop _ [] _ _ _ _ (cc))
+    (λ c. marks-stop _ _ _ _ _ (cc))
     (λ c. search needs)
     (λ c κs. search needs)
-    (λ c. marks-pass _ [] _ _ _ (cc) (c .check-digest .ensures)))
+    (λ c. marks-pass _ _ _ _ (cc) (c .check-digest .ensures)))
