@@ -1,2 +1,9 @@
 pub mod Arms
 pub mod Equal
+pub mod Compare
+pub mod Lex
+pub mod Sorting
+pub mod Each
+pub mod Arranged
+pub mod Merging
+pub mod Halves

@@ -1,11 +1,13 @@
 // Keys of a list of items, over two kinds of source: the records of a segment, and the entries that write is lent. Both kinds
-// have their digests in a run of bytes. One function for each column knows the kinds; nothing above it does.
+// have their digests in a run of bytes. One function for each column knows the kinds; nothing above it does. Keys are told
+// apart, put in order, and item numbers are sorted by them.
 ghost use mathlib.Core.Path.{_≡_};
 ghost use Prim.Native.Nat.{_+_, _<_, _≤_};
-ghost use lib.ListN.{length};
+ghost use lib.ListN.{length, take, drop};
 ghost use Rattle.rules.specs.Rules.{firstOver};
-ghost use Rattle.segment.specs.Keys.{keyOf, eqList, sameKey, freshKey};
+ghost use Rattle.segment.specs.Keys.{keyOf, eqList, lexLeq, sameKey, freshKey, sortBy};
 ghost use Rattle.order.specs.Items.{recordSpan, entrySpan, Item, Items, itemHash, itemSpan, itemDigest, itemKey};
+ghost use Rattle.order.specs.Order.{lex, itemLeq, Readable, leftNext, mergeBy};
 use rules::Refusal;
 use rules::Verdict;
 use segment::record;
@@ -133,4 +135,137 @@ pub fn check_keys(kind: Kind, bytes: &[u8], list: &[u64], n: usize) -> Verdict
         return Verdict::Refused(Refusal::Duplicate(found as u64));
     }
     Verdict::Accepted
+}
+
+// How two lists of bytes stand to each other.
+pub enum Compared {
+    Less,
+    Equal,
+    Greater,
+}
+
+// The first unlike bytes decide; where one list is the other's beginning, it is the lesser.
+pub fn compare_bytes(a: &[u8], b: &[u8]) -> Compared
+    ensures { λ r. ⌜ r ≡ lex (now (a .entry)) (now (b .entry)) ⌝ }
+{
+    let mut k = 0;
+    while k < a.len() {
+        if b.len() <= k {
+            return Compared::Greater;
+        }
+        if a[k] < b[k] {
+            return Compared::Less;
+        }
+        if b[k] < a[k] {
+            return Compared::Greater;
+        }
+        k += 1;
+    }
+    if k < b.len() {
+        return Compared::Less;
+    }
+    Compared::Equal
+}
+
+fn no_later(a: &[u8], b: &[u8]) -> bool
+    ensures { λ r. ⌜ r ≡ lexLeq (now (a .entry)) (now (b .entry)) ⌝ }
+{
+    match compare_bytes(a, b) {
+        Compared::Less => true,
+        Compared::Equal => true,
+        Compared::Greater => false,
+    }
+}
+
+// Whether item i comes no later than item j: hash ids as numbers first, then the digests' bytes.
+pub fn comes_first(kind: Kind, bytes: &[u8], list: &[u64], i: usize, j: usize) -> bool
+    requires { ⌜ Item kind (now bytes) (now list) i ⌝ }
+    requires { ⌜ Item kind (now bytes) (now list) j ⌝ }
+    ensures { λ r. ⌜ r ≡ itemLeq kind (now (bytes .entry)) (now (list .entry)) i j ⌝ }
+{
+    let x = hash_of(kind, bytes, list, i);
+    let y = hash_of(kind, bytes, list, j);
+    if x < y {
+        return true;
+    }
+    if y < x {
+        return false;
+    }
+    no_later(digest(kind, bytes, list, i), digest(kind, bytes, list, j))
+}
+
+// Whether a merge that has passed i numbers of a and j of b goes on with one of a. Of equal keys a's is first, so that a sort
+// keeps their order.
+fn left_next(
+    kind: Kind,
+    bytes: &[u8],
+    list: &[u64],
+    a: &[u16],
+    i: usize,
+    b: &[u16],
+    j: usize,
+) -> bool
+    requires { ⌜ Readable kind (now bytes) (now list) (now a) ⌝ }
+    requires { ⌜ Readable kind (now bytes) (now list) (now b) ⌝ }
+    ensures { λ r. ⌜ r ≡ leftNext (itemLeq kind (now (bytes .entry)) (now (list .entry))) (drop i (now (a .entry))) (drop j (now (b .entry))) ⌝ }
+{
+    if a.len() <= i {
+        return false;
+    }
+    if b.len() <= j {
+        return true;
+    }
+    comes_first(kind, bytes, list, a[i] as usize, b[j] as usize)
+}
+
+// Two sorted lists of item numbers into one, at the front of `out`.
+fn merge(kind: Kind, bytes: &[u8], list: &[u64], a: &[u16], b: &[u16], out: &mut [u16])
+    requires { ⌜ Readable kind (now bytes) (now list) (now a) ⌝ }
+    requires { ⌜ Readable kind (now bytes) (now list) (now b) ⌝ }
+    requires { ⌜ length (now a) + length (now b) ≤ length (now out) ⌝ }
+    ensures { λ _. ⌜ take (length (now (a .entry)) + length (now (b .entry))) (now (out .exit)) ≡ mergeBy (itemLeq kind (now (bytes .entry)) (now (list .entry))) (now (a .entry)) (now (b .entry)) ⌝ }
+{
+    let n = a.len() + b.len();
+    let mut i = 0;
+    let mut j = 0;
+    while i + j < n {
+        if left_next(kind, bytes, list, a, i, b, j) {
+            out[i + j] = a[i];
+            i += 1;
+        } else {
+            out[i + j] = b[j];
+            j += 1;
+        }
+    }
+}
+
+// All of `to`, from the front of `from`.
+fn copy_front(from: &[u16], to: &mut [u16])
+    requires { ⌜ length (now to) ≤ length (now from) ⌝ }
+    ensures { λ _. ⌜ now (to .exit) ≡ take (length (now (to .entry))) (now (from .entry)) ⌝ }
+{
+    let mut i = 0;
+    while i < to.len() {
+        to[i] = from[i];
+        i += 1;
+    }
+}
+
+// Sorts item numbers by their items' keys; those of equal keys stay in the order in which they stand. Each half is sorted, and
+// the two are merged in the spare numbers, so that n numbers take n log n steps and log n calls inside each other.
+pub fn sort(kind: Kind, bytes: &[u8], list: &[u64], numbers: &mut [u16], spare: &mut [u16])
+    requires { ⌜ Readable kind (now bytes) (now list) (now numbers) ⌝ }
+    requires { ⌜ length (now numbers) ≤ length (now spare) ⌝ }
+    ensures { λ _. ⌜ now (numbers .exit) ≡ sortBy (itemLeq kind (now (bytes .entry)) (now (list .entry))) (now (numbers .entry)) ⌝ }
+{
+    let n = numbers.len();
+    if n < 2 {
+        return;
+    }
+    let m = n / 2;
+    sort(kind, bytes, list, &mut numbers[..m], spare);
+    sort(kind, bytes, list, &mut numbers[m..], spare);
+    let halves = &numbers[..];
+    merge(kind, bytes, list, &halves[..m], &halves[m..], spare);
+    copy_front(spare, numbers);
 }
