@@ -1,8 +1,8 @@
 -- The rows of a record's tables, 9 and 10, and the sum over its extents. Each premise is as the code's test or call leaves it.
 -- Assumes nothing.
 use Prim.Native.Nat.{ℕ, suc, _+_, _-_, _*_, _%_, _≤_, _<_}
-use mathlib.Core.Path.{_≡_, refl, _∙_}
-use mathlib.Core.Bool.{Bool, true, false}
+use mathlib.Core.Path.{_≡_, _∙_}
+use mathlib.Core.Bool.{true, false}
 use mathlib.Core.List.{List, _∷_}
 use native.Mathlib.Omega.{arith}
 use borrow.Author.Tests.{ne-eqb, leb-true}
@@ -10,7 +10,7 @@ use lib.Dec.{eqb, leb}
 use Rattle.numbers.specs.Numbers.{numAt}
 use Rattle.rules.specs.declared.Refusal.the-variants.{Extents, Total}
 use Rattle.rules.specs.declared.Verdict.the-variants.{Accepted, Refused}
-use Rattle.rules.proofs.Order.{tests, held, must-accepted}
+use Rattle.rules.proofs.Order.{tests, by-test, held, must-accepted}
 use Rattle.segment.specs.declared.header.Header.{Header}
 use Rattle.segment.specs.declared.record.Record.{Record}
 use Rattle.segment.specs.declared.extent.Extent.{Extent}
@@ -138,20 +138,13 @@ sum-done s at count i sum v h =
 
 -- ---- 10
 
-by-fit : (es : List Extent) (P : Type 0) → (allFit es ≡ true → P) → (allFit es ≡ false → P) → P
-by-fit es P f g = go (allFit es) refl
-  where
-    go : (b : Bool) → allFit es ≡ b → P
-    go true e = f e
-    go false e = g e
-
 not-fit : (es : List Extent) → Past ≡ summed es → allFit es ≡ false
 unfolding summed
-not-fit es e = by-fit es (allFit es ≡ false) (λ f. let q : Past ≡ Of (sumLengths es) = e ∙ rw f in cc) (λ f. f)
+not-fit es e = by-test (allFit es) (λ f. let q : Past ≡ Of (sumLengths es) = e ∙ rw f in cc) (λ f. f)
 
 all-fit : (es : List Extent) (sum : ℕ) → Of sum ≡ summed es → allFit es ≡ true
 unfolding summed
-all-fit es sum e = by-fit es (allFit es ≡ true) (λ f. f) (λ f. let q : Of sum ≡ Past = e ∙ rw f in cc)
+all-fit es sum e = by-test (allFit es) (λ f. f) (λ f. let q : Of sum ≡ Past = e ∙ rw f in cc)
 
 sum-is : (es : List Extent) (sum : ℕ) → Of sum ≡ summed es → sumLengths es ≡ sum
 unfolding summed

@@ -2,7 +2,7 @@
 -- code's test or call leaves it.
 -- Assumes nothing.
 use Prim.Native.Nat.{ℕ, _+_, _-_, _*_, _/_, _%_, _≤_, _<_}
-use mathlib.Core.Path.{_≡_, refl, sym, _∙_}
+use mathlib.Core.Path.{_≡_, sym, _∙_}
 use mathlib.Core.Bool.{Bool, true, false, not}
 use mathlib.Core.List.{List}
 use native.Mathlib.Omega.{arith}
@@ -13,7 +13,7 @@ use Rattle.numbers.specs.Numbers.{numAt}
 use Rattle.crc64.specs.Crc.{crc}
 use Rattle.rules.specs.declared.Refusal.the-variants.{Magic, Version, Header as HeaderWrong, Layout, Checksum}
 use Rattle.rules.specs.declared.Verdict.the-variants.{Accepted, Refused}
-use Rattle.rules.proofs.Order.{tests, was-true, was-false}
+use Rattle.rules.proofs.Order.{tests, by-test, was-true, was-false}
 use Rattle.segment.specs.declared.header.Header.{Header}
 use Rattle.segment.specs.Format.{v3, recordCount, recordsOffset, bloomOffset, bloomSize, digestsOffset, digestsSize, extentsOffset, extentCount, footerOf}
 use Rattle.segment.specs.Check.{headVerdict, bloomPlace, layoutVerdict, checksumVerdict}
@@ -65,11 +65,10 @@ pub ruleset head-rows = (head-magic, head-version, head-size, head-federation, h
 
 -- two tests of equality that hold together say the same
 same-test : (x y z w : ℕ) → (x ≡ y → z ≡ w) → (z ≡ w → x ≡ y) → eqb x y ≡ eqb z w
-same-test x y z w f g = go (eqb x y) refl
-  where
-    go : (b : Bool) → eqb x y ≡ b → eqb x y ≡ eqb z w
-    go true e = e ∙ sym (eq-eqb z w (f (eqb-true x y e)))
-    go false e = e ∙ sym (ne-eqb z w (λ q. eqb-false x y e (g q)))
+same-test x y z w f g =
+    by-test (eqb x y)
+    (λ e. e ∙ sym (eq-eqb z w (f (eqb-true x y e))))
+    (λ e. e ∙ sym (ne-eqb z w (λ q. eqb-false x y e (g q))))
 
 pub bloom-none : (size : ℕ) → size ≡ 0 → 0 ≡ bloomPlace size
 bloom-none size e = simp tests

@@ -2,7 +2,7 @@
 -- Assumes nothing.
 use Prim.Native.Nat.{ℕ, _*_, _<_}
 use mathlib.Core.Path.{_≡_, refl, sym, ap, _∙_}
-use mathlib.Core.Bool.{Bool, true, false}
+use mathlib.Core.Bool.{true, false}
 use mathlib.Core.Logic.{_↔_}
 use mathlib.Core.List.{List}
 use native.Mathlib.Omega.{arith}
@@ -16,7 +16,7 @@ use Rattle.rules.specs.declared.Found.{Found}
 use Rattle.rules.specs.declared.Found.the-variants.{Absent, Refused as NotFound}
 use Rattle.rules.specs.Answers.{checkAnswer, foundAnswer}
 use Rattle.rules.specs.Rules.{after}
-use Rattle.rules.proofs.Order.{then-accepted}
+use Rattle.rules.proofs.Order.{by-test, then-accepted}
 use Rattle.rules.proofs.Settled.{check-settled, found-settled}
 use Rattle.segment.specs.declared.record.Record.{Record}
 use Rattle.segment.specs.Format.{v3, headerOf, recordCount, recordNo}
@@ -98,10 +98,6 @@ module _ (pairs s : List ℕ) (hash : ℕ) (digest : List ℕ) (e : checkOf pair
 
 -- ---- each refusal of look up exactly when
 
-by-bool : (b : Bool) (P : Type 0) → (b ≡ true → P) → (b ≡ false → P) → P
-by-bool true P f g = f refl
-by-bool false P f g = g refl
-
 module _ (pairs s : List ℕ) (hash : ℕ) (digest : List ℕ) where
   looks : Found
   looks = lookedUp pairs s hash digest
@@ -135,9 +131,9 @@ module _ (pairs s : List ℕ) (hash : ℕ) (digest : List ℕ) where
 
   given : (r : Refusal) → looks ≡ NotFound r → LookGiven pairs s hash digest r
   given r e =
-      by-bool (goodTable pairs) (LookGiven pairs s hash digest r)
+      by-test (goodTable pairs)
       (λ g.
-      by-bool (allows pairs hash (length digest)) (LookGiven pairs s hash digest r) (λ a. by-segment g a (from-check g a r e))
+      by-test (allows pairs hash (length digest)) (λ a. by-segment g a (from-check g a r e))
       (λ a. let z : NotFound Key ≡ NotFound r = sym (no-key g a) ∙ e in let same : Key ≡ r = cc in rw (← same) (by-key g a)))
       (λ g. let z : NotFound Table ≡ NotFound r = sym (under-bad g) ∙ e in let same : Table ≡ r = cc in rw (← same) (by-table g))
 

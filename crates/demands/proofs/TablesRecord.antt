@@ -3,7 +3,7 @@
 -- Assumes nothing.
 use Prim.Native.Nat.{ℕ, zero, suc, _+_, _*_, _≤_, _<_}
 use mathlib.Core.Path.{_≡_, refl}
-use mathlib.Core.Bool.{Bool, true, false, cond, _&&_, _||_}
+use mathlib.Core.Bool.{true, cond, _||_}
 use mathlib.Core.Logic.{_↔_, Iff·rfl, Iff·trans, by-cases}
 use mathlib.Core.List.{List}
 use native.Mathlib.Decide.{ℕ-discrete}
@@ -14,7 +14,7 @@ use lib.Dec.{eqb}
 use Rattle.rules.specs.declared.Refusal.the-variants.{Record as RecordWrong, Digest, Extents, Total}
 use Rattle.rules.specs.declared.Verdict.{Verdict}
 use Rattle.rules.specs.declared.Verdict.the-variants.{Accepted, Refused}
-use Rattle.rules.proofs.Order.{tests, then-accepted}
+use Rattle.rules.proofs.Order.{tests, and-iff, then-accepted}
 use Rattle.segment.specs.declared.header.Header.{Header}
 use Rattle.segment.specs.declared.record.Record.{Record}
 use Rattle.segment.specs.Format.{Shape, blockEnd, extentOf, extentsAt, extentsIn, recordNo}
@@ -90,10 +90,6 @@ extents-book h r k =
     Iff·trans (by-gone r (gone-book r k) (live-book h r k)) (λ a. record { gone = a .0; live = a .1 }, λ m. (m .gone, m .live))
 
 -- ---- 10
-
-and-iff : (a b : Bool) → (a && b) ≡ true ↔ (a ≡ true) × (b ≡ true)
-and-iff true b = (λ e. (refl, e), λ e. e .1)
-and-iff false b = (λ e. (e, cc), λ e. e .0)
 
 -- the extent at a place lies inside its block
 abbrev Inside : List ℕ → ℕ → Type 0

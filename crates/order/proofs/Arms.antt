@@ -1,12 +1,12 @@
 -- What each kind of source says of an item: where it stands, its hash id, and where its digest lies.
 -- Assumes nothing.
 use Prim.Native.Nat.{ℕ, _+_, _-_, _*_, _≤_}
-use mathlib.Core.Path.{_≡_, refl, sym, subst, _∙_}
+use mathlib.Core.Path.{_≡_, subst}
 use mathlib.Core.List.{List}
 use native.Mathlib.Omega.{arith}
 use lib.ListN.{length, getD, take, drop}
 use Rattle.numbers.specs.Numbers.{numAt}
-use Rattle.segment.specs.Format.{v3, recordOf}
+use Rattle.segment.specs.Format.{recordOf}
 use Rattle.order.specs.declared.Kind.{Kind}
 use Rattle.order.specs.declared.Kind.the-variants.{Records, Entries}
 use Rattle.order.specs.declared.Span.{Span}

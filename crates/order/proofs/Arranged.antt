@@ -11,7 +11,7 @@ use borrow.Author.Tests.{ltb-true, ltb-false}
 use lib.Dec.{ltb}
 use Rattle.rules.specs.declared.Verdict.the-variants.{Accepted}
 use Rattle.rules.specs.Rules.{firstOver}
-use Rattle.rules.proofs.Order.{first-accepted}
+use Rattle.rules.proofs.Order.{by-test, first-accepted}
 use Rattle.segment.specs.Keys.{freshKey, insert, sortBy}
 use Rattle.order.specs.declared.Kind.{Kind}
 use Rattle.order.specs.Items.{itemKey}
@@ -19,7 +19,7 @@ use Rattle.order.specs.Order.{itemLeq, Each, Ascending}
 use Rattle.order.proofs.Each.{each-permuted}
 use Rattle.order.proofs.Equal.{eqList-iff, stands-earlier}
 use Rattle.order.proofs.Lex.{lex-anti}
-use Rattle.order.proofs.Sorting.{by-cases, Total}
+use Rattle.order.proofs.Sorting.{Total}
 
 -- of the elements with P, two that come no later than each other are one
 abbrev pub Anti : {A : Type 0} → (A → A → Bool) → (A → Type 0) → Type 0
@@ -56,13 +56,13 @@ module _ {A : Type 0} (leq : A → A → Bool) where
   module _ (o : Total leq) where
     ascend-step : (x y z : A) (zs : List A) → Ascending leq (y ∷ z ∷ zs) → Ascending leq (insert leq x (z ∷ zs)) → Ascending leq (insert leq x (y ∷ z ∷ zs))
     unfolding insert Ascending
-    ascend-step x y z zs h k = by-cases (leq x y) (λ t. simp t (refl, h))
-        (λ f. by-cases (leq x z) (λ u. simp (f, u) (o .total x y f, simp u at k)) (λ u. simp (f, u) (h .0, simp u at k)))
+    ascend-step x y z zs h k = by-test (leq x y) (λ t. simp t (refl, h))
+        (λ f. by-test (leq x z) (λ u. simp (f, u) (o .total x y f, simp u at k)) (λ u. simp (f, u) (h .0, simp u at k)))
 
     insert-ascends : (x : A) (ys : List A) → Ascending leq ys → Ascending leq (insert leq x ys)
     unfolding insert Ascending
     insert-ascends x [] h = tt
-    insert-ascends x (y ∷ []) h = by-cases (leq x y) (λ t. simp t (refl, tt)) (λ f. simp f (o .total x y f, tt))
+    insert-ascends x (y ∷ []) h = by-test (leq x y) (λ t. simp t (refl, tt)) (λ f. simp f (o .total x y f, tt))
     insert-ascends x (y ∷ z ∷ zs) h = ascend-step x y z zs h (insert-ascends x (z ∷ zs) (h .1))
 
     pub sort-ascends : (xs : List A) → Ascending leq (sortBy leq xs)
@@ -75,9 +75,9 @@ module _ {A : Type 0} (leq : A → A → Bool) where
     ordered-step : (x y z : A) (zs : List A) → leq x y ≡ true → leq y x ≡ false → insert leq x (insert leq y zs) ≡ insert leq y (insert leq x zs)
         → insert leq x (insert leq y (z ∷ zs)) ≡ insert leq y (insert leq x (z ∷ zs))
     unfolding insert
-    ordered-step x y z zs xy yx k = by-cases (leq y z)
+    ordered-step x y z zs xy yx k = by-test (leq y z)
         (λ yz. simp (yz, xy, yx, o .trans x y z xy yz))
-        (λ yz. by-cases (leq x z) (λ xz. simp (xz, yz, yx)) (λ xz. simp (xz, yz) (ap (λ (t : List A). z ∷ t) k)))
+        (λ yz. by-test (leq x z) (λ xz. simp (xz, yz, yx)) (λ xz. simp (xz, yz) (ap (λ (t : List A). z ∷ t) k)))
 
     ordered : (x y : A) → leq x y ≡ true → leq y x ≡ false → (zs : List A) → insert leq x (insert leq y zs) ≡ insert leq y (insert leq x zs)
     unfolding insert
@@ -86,8 +86,8 @@ module _ {A : Type 0} (leq : A → A → Bool) where
 
     module _ (P : A → Type 0) (anti : Anti leq P) where
       insert-swaps : (x y : A) (zs : List A) → P x → P y → insert leq x (insert leq y zs) ≡ insert leq y (insert leq x zs)
-      insert-swaps x y zs p q = by-cases (leq x y)
-          (λ xy. by-cases (leq y x) (λ yx. rw (anti x y p q xy yx)) (λ yx. ordered x y xy yx zs))
+      insert-swaps x y zs p q = by-test (leq x y)
+          (λ xy. by-test (leq y x) (λ yx. rw (anti x y p q xy yx)) (λ yx. ordered x y xy yx zs))
           (λ xy. sym (ordered y x (o .total x y xy) xy zs))
 
       -- the same elements in any order sort to the same list
@@ -125,7 +125,7 @@ unfolding itemLeq
 item-anti kind bytes list n f a b p q h k =
     let key : ℕ → List ℕ = itemKey kind bytes list in
     let e = lex-anti (key a) (key b) h k in
-    by-cases (ltb b a) (λ t. absurd (apart key n a b f p (ltb-true b a t) e))
-    (λ g. by-cases (ltb a b)
+    by-test (ltb b a) (λ t. absurd (apart key n a b f p (ltb-true b a t) e))
+    (λ g. by-test (ltb a b)
     (λ t. absurd (apart key n b a f q (ltb-true a b t) (sym e)))
     (λ t. let l = ltb-false b a g in let m = ltb-false a b t in omega arith))

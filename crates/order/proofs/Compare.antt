@@ -10,13 +10,13 @@ use borrow.Author.Tests.{lt-ltb, le-ltb, ltb-true, ltb-false, eq-eqb, ne-eqb}
 use lib.Dec.{ltb, eqb}
 use lib.ListN.{length, getD, drop, drop-of-length-le}
 use lib.Seq.{drop-cons}
+use Rattle.rules.proofs.Order.{by-test}
 use Rattle.segment.specs.Keys.{lexLeq}
 use Rattle.order.specs.declared.Kind.{Kind}
 use Rattle.order.specs.declared.Compared.{Compared}
 use Rattle.order.specs.declared.Compared.the-variants.{Less, Equal, Greater}
 use Rattle.order.specs.Items.{itemHash, itemDigest, itemKey}
 use Rattle.order.specs.Order.{lex, notGreater, itemLeq}
-use Rattle.order.proofs.Sorting.{by-cases}
 
 -- what is left from k on decides (`left`)
 module _ (a b : List ℕ) (k : ℕ) (left : lex a b ≡ lex (drop k a) (drop k b)) where
@@ -55,8 +55,8 @@ unfolding lexLeq lex notGreater
 leq-lex [] [] = refl
 leq-lex [] (y ∷ ys) = refl
 leq-lex (x ∷ xs) [] = refl
-leq-lex (x ∷ xs) (y ∷ ys) = by-cases (ltb x y) (λ t. simp t)
-    (λ f. by-cases (ltb y x)
+leq-lex (x ∷ xs) (y ∷ ys) = by-test (ltb x y) (λ t. simp t)
+    (λ f. by-test (ltb y x)
     (λ t. let l = ltb-true y x t in let n : eqb x y ≡ false = ne-eqb x y (λ e. omega arith) in simp (f, t, n))
     (λ g. let k = ltb-false x y f in let l = ltb-false y x g in let e : eqb x y ≡ true = eq-eqb x y (omega arith) in simp (f, g, e) (leq-lex xs ys)))
 

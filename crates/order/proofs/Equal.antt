@@ -2,7 +2,7 @@
 -- Assumes nothing.
 use Prim.Native.Nat.{ℕ, _<_}
 use mathlib.Core.Path.{_≡_, refl, sym, _∙_}
-use mathlib.Core.Bool.{Bool, true, false, _&&_}
+use mathlib.Core.Bool.{Bool, true, false}
 use mathlib.Core.Logic.{_↔_}
 use mathlib.Core.List.{List, [], _∷_}
 use borrow.Author.Tests.{eqb-true, eq-eqb, ne-eqb}
@@ -10,14 +10,10 @@ use lib.Dec.{eqb}
 use Rattle.rules.specs.declared.Refusal.the-variants.{Duplicate}
 use Rattle.rules.specs.declared.Verdict.the-variants.{Accepted, Refused}
 use Rattle.rules.specs.Rules.{someBelow}
-use Rattle.rules.proofs.Order.{some-found}
+use Rattle.rules.proofs.Order.{and-iff, some-found}
 use Rattle.segment.specs.Keys.{keyOf, eqList, sameKey, freshKey}
 use Rattle.order.specs.declared.Kind.{Kind}
 use Rattle.order.specs.Items.{itemHash, itemDigest, itemKey}
-
-and-both : (a b : Bool) → (a && b) ≡ true → (a ≡ true) × (b ≡ true)
-and-both true b e = (refl, e)
-and-both false b e = (e, cc)
 
 if-not : (b : Bool) → (b ≡ true → ⊥) → b ≡ false
 if-not true h = absurd (h refl)
@@ -29,7 +25,7 @@ eqList-same [] [] e = refl
 eqList-same [] (y ∷ ys) e = cc
 eqList-same (x ∷ xs) [] e = cc
 eqList-same (x ∷ xs) (y ∷ ys) e =
-    let b = and-both (eqb x y) (eqList xs ys) e in
+    let b = and-iff (eqb x y) (eqList xs ys) .0 e in
     let h = eqb-true x y (b .0) in
     let t = eqList-same xs ys (b .1) in
     cc

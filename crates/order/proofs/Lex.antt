@@ -9,23 +9,24 @@ use mathlib.Core.List.{List, [], _∷_}
 use native.Mathlib.Omega.{arith}
 use borrow.Author.Tests.{lt-ltb, le-ltb, ltb-true, ltb-false, eqb-true, eqb-false, eq-eqb}
 use lib.Dec.{ltb, eqb}
+use Rattle.rules.proofs.Order.{by-test}
 use Rattle.segment.specs.Keys.{lexLeq}
 use Rattle.order.specs.declared.Kind.{Kind}
 use Rattle.order.specs.Items.{itemKey}
 use Rattle.order.specs.Order.{itemLeq}
-use Rattle.order.proofs.Sorting.{by-cases, clash, Total}
+use Rattle.order.proofs.Sorting.{clash, Total}
 
 module _ (x y : ℕ) (xs ys : List ℕ) where
   -- what either answer says of the first numbers and of what follows them
   leq-inv : lexLeq (x ∷ xs) (y ∷ ys) ≡ true → (x < y) ⊎ ((x ≡ y) × (lexLeq xs ys ≡ true))
   unfolding lexLeq
-  leq-inv h = by-cases (ltb x y) (λ t. inl (ltb-true x y t))
-      (λ f. by-cases (eqb x y) (λ t. inr (eqb-true x y t, simp (f, t) at h)) (λ g. clash false (simp (f, g) at h) refl))
+  leq-inv h = by-test (ltb x y) (λ t. inl (ltb-true x y t))
+      (λ f. by-test (eqb x y) (λ t. inr (eqb-true x y t, simp (f, t) at h)) (λ g. clash false (simp (f, g) at h) refl))
 
   gt-inv : lexLeq (x ∷ xs) (y ∷ ys) ≡ false → (y < x) ⊎ ((x ≡ y) × (lexLeq xs ys ≡ false))
   unfolding lexLeq
-  gt-inv h = by-cases (ltb x y) (λ t. clash true refl (simp t at h))
-      (λ f. by-cases (eqb x y)
+  gt-inv h = by-test (ltb x y) (λ t. clash true refl (simp t at h))
+      (λ f. by-test (eqb x y)
       (λ t. inr (eqb-true x y t, simp (f, t) at h))
       (λ g. let l = ltb-false x y f in let n = eqb-false x y g in inl (omega arith)))
 

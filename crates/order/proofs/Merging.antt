@@ -10,8 +10,9 @@ use borrow.Author.Tests.{ltb-true, ltb-false}
 use lib.Dec.{ltb}
 use lib.ListN.{length, getD, set, take, drop, drop-of-length-le}
 use lib.Seq.{drop-cons, take-suc, take-suc-set, append-snoc, take-all}
+use Rattle.rules.proofs.Order.{by-test}
 use Rattle.order.specs.Order.{mergeBy, leftNext}
-use Rattle.order.proofs.Sorting.{by-cases, clash, merge-nil}
+use Rattle.order.proofs.Sorting.{clash, merge-nil}
 
 -- ---- the side that goes on
 
@@ -30,10 +31,10 @@ module _ (leq : ℕ → ℕ → Bool) (a b : List ℕ) (i j : ℕ) where
 
   module _ (r : Bool) (e : r ≡ leftNext leq (drop i a) (drop j b)) where
     pub left-stands : r ≡ true → i < length a
-    left-stands t = by-cases (ltb i (length a)) (ltb-true i (length a)) (λ f. clash r t (e ∙ sym (left-ended (ltb-false i (length a) f))))
+    left-stands t = by-test (ltb i (length a)) (ltb-true i (length a)) (λ f. clash r t (e ∙ sym (left-ended (ltb-false i (length a) f))))
 
     pub right-stands : r ≡ false → i ≤ length a → i + j < length a + length b → j < length b
-    right-stands f h k = by-cases (ltb j (length b)) (ltb-true j (length b))
+    right-stands f h k = by-test (ltb j (length b)) (ltb-true j (length b))
         (λ g. let l = ltb-false j (length b) g in clash r (e ∙ sym (right-ended (omega arith) l)) f)
 
 -- ---- a turn of the merge

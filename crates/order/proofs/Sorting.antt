@@ -6,12 +6,9 @@ use mathlib.Core.Path.{_≡_, refl, sym, ap, _∙_}
 use mathlib.Core.Bool.{Bool, true, false, true≢false}
 use mathlib.Core.List.{List, [], _∷_, _++_}
 use lib.ListN.{length}
+use Rattle.rules.proofs.Order.{by-test}
 use Rattle.segment.specs.Keys.{insert, sortBy}
 use Rattle.order.specs.Order.{mergeBy}
-
-pub by-cases : {P : Type 0} (b : Bool) → (b ≡ true → P) → (b ≡ false → P) → P
-by-cases true t f = t refl
-by-cases false t f = f refl
 
 pub clash : {P : Type 0} (b : Bool) → b ≡ true → b ≡ false → P
 clash b t f = absurd (true≢false (sym t ∙ f))
@@ -29,7 +26,7 @@ module _ {A : Type 0} (leq : A → A → Bool) where
   merge-one : (x : A) (ys : List A) → mergeBy leq (x ∷ []) ys ≡ insert leq x ys
   unfolding mergeBy insert
   merge-one x [] = refl
-  merge-one x (y ∷ ys) = by-cases (leq x y) (λ t. simp t) (λ f. simp (f, merge-one x ys))
+  merge-one x (y ∷ ys) = by-test (leq x y) (λ t. simp t) (λ f. simp (f, merge-one x ys))
 
   module _ (o : Total leq) where
     -- x goes into the left list or into the whole, where both lists have an element left
@@ -37,13 +34,13 @@ module _ {A : Type 0} (leq : A → A → Bool) where
         → mergeBy leq (insert leq x (a ∷ ls)) rs ≡ insert leq x (mergeBy leq (a ∷ ls) rs)
         → mergeBy leq (insert leq x (a ∷ ls)) (b ∷ rs) ≡ insert leq x (mergeBy leq (a ∷ ls) (b ∷ rs))
     unfolding mergeBy insert
-    merge-step x a b ls rs l r = by-cases (leq x a)
-        (λ xa. by-cases (leq x b)
-        (λ xb. by-cases (leq a b) (λ ab. simp (xa, xb, ab)) (λ ab. simp (xa, xb, ab)))
-        (λ xb. by-cases (leq a b) (λ ab. clash (leq x b) (o .trans x a b xa ab) xb) (λ ab. simp (xa, xb, ab) (ap (λ (t : List A). b ∷ t) (simp xa at r)))))
-        (λ xa. by-cases (leq a b)
+    merge-step x a b ls rs l r = by-test (leq x a)
+        (λ xa. by-test (leq x b)
+        (λ xb. by-test (leq a b) (λ ab. simp (xa, xb, ab)) (λ ab. simp (xa, xb, ab)))
+        (λ xb. by-test (leq a b) (λ ab. clash (leq x b) (o .trans x a b xa ab) xb) (λ ab. simp (xa, xb, ab) (ap (λ (t : List A). b ∷ t) (simp xa at r)))))
+        (λ xa. by-test (leq a b)
         (λ ab. simp (xa, ab) (ap (λ (t : List A). a ∷ t) l))
-        (λ ab. by-cases (leq x b)
+        (λ ab. by-test (leq x b)
         (λ xb. clash (leq x a) (o .trans x b a xb (o .total a b ab)) xa)
         (λ xb. simp (xa, xb, ab) (ap (λ (t : List A). b ∷ t) (simp xa at r)))))
 
@@ -62,7 +59,7 @@ module _ {A : Type 0} (leq : A → A → Bool) where
   insert-length : (x : A) (ys : List A) → length (insert leq x ys) ≡ suc (length ys)
   unfolding insert
   insert-length x [] = refl
-  insert-length x (y ∷ ys) = by-cases (leq x y) (λ t. simp t) (λ f. simp f (ap suc (insert-length x ys)))
+  insert-length x (y ∷ ys) = by-test (leq x y) (λ t. simp t) (λ f. simp f (ap suc (insert-length x ys)))
 
   pub sort-length : (xs : List A) → length (sortBy leq xs) ≡ length xs
   unfolding sortBy

@@ -12,17 +12,9 @@ use borrow.Author.Tests.{leb-true, not-true as flag-false}
 use lib.Dec.{leb}
 use lib.ListN.{length, getD, take, drop, set, replicate, length-append, length-drop, drop-of-length-le}
 use lib.Seq.{drop-cons, take-all, take-suc, set-at, take-at, length-take-le, append-snoc}
-use Rattle.rules.proofs.Order.{tests}
+use Rattle.rules.proofs.Order.{tests, by-test, and-iff}
 use Rattle.segment.specs.declared.table.Tabled.{Tabled}
 use Rattle.segment.specs.Table.{stands, goodPairs, goodTable, allows, tabledOf}
-
-and-left : (a b : Bool) → (a && b) ≡ true → a ≡ true
-and-left true b e = refl
-and-left false b e = e
-
-and-right : (a b : Bool) → (a && b) ≡ true → b ≡ true
-and-right true b e = e
-and-right false b e = cc
 
 -- a loop over p has come to k, and f says of p what it says of the rest
 pub record Rest (f : List ℕ → Bool) (p : List ℕ) (k : ℕ) : Type 0 where
@@ -156,7 +148,7 @@ copied-more n p i h l =
 pub sized : (p : List ℕ) → goodTable p ≡ true → length p ≤ 32
 unfolding goodTable
 sized p e =
-    leb-true (length p) 32 (and-left (leb (length p) 32) (goodPairs p) (and-right (leb 1 (length p)) (leb (length p) 32 && goodPairs p) e))
+    leb-true (length p) 32 (and-iff (leb (length p) 32) (goodPairs p) .0 (and-iff (leb 1 (length p)) (leb (length p) 32 && goodPairs p) .0 e .1) .0)
 
 pub no-table : (p : List ℕ) → goodTable p ≡ false → record { good = false; table = record { numbers = replicate 32 0; count = 0 } } ≡ tabledOf p
 unfolding tabledOf
@@ -168,13 +160,6 @@ unfolding tabledOf
 a-table p numbers e f = rw (e, f)
 
 -- what a caller knows of a list that was copied: it is no table, or it stands in front
-by-table : (p : List ℕ) (P : Type 0) → (goodTable p ≡ true → P) → (goodTable p ≡ false → P) → P
-by-table p P f g = go (goodTable p) refl
-  where
-    go : (b : Bool) → goodTable p ≡ b → P
-    go true e = f e
-    go false e = g e
-
 pub record Copied (p : List ℕ) (t : Tabled) : Type 0 where
   pub good : goodTable p ≡ true
   pub within : t .table .count ≤ length (t .table .numbers)
@@ -183,13 +168,13 @@ pub record Copied (p : List ℕ) (t : Tabled) : Type 0 where
 pub not-copied : (p : List ℕ) (t : Tabled) → t ≡ tabledOf p → not (t .good) ≡ true → goodTable p ≡ false
 unfolding tabledOf
 not-copied p t e f =
-    by-table p (goodTable p ≡ false)
+    by-test (goodTable p)
     (λ g. let q : t .good ≡ true = ap (λ (x : Tabled). x .good) e ∙ rw g in let z : true ≡ false = sym q ∙ flag-false (t .good) f in cc)
     (λ g. g)
 
 pub is-copied : (p : List ℕ) (t : Tabled) → t ≡ tabledOf p → not (t .good) ≡ false → Copied p t
 unfolding tabledOf
 is-copied p t e f =
-    by-table p (Copied p t)
+    by-test (goodTable p)
     (λ g. rw e (rw g (record { good = g; within = simp length-append (omega arith); front = take-at p (replicate (32 - length p) 0) (length p) refl })))
     (λ g. let q : t .good ≡ false = ap (λ (x : Tabled). x .good) e ∙ rw g in let z : _≡_ {A = ℕ} 0 1 = cc in absurd (omega arith))

@@ -1,7 +1,6 @@
 -- `order::entry_span` meets its contract: the entry's second and third number.
 use mathlib.Core.Path.{refl}
 use native.Mathlib.Omega.{arith}
-use borrow.Author.Needs.{needs}
 use Rattle.order.specs.Items.{entrySpan}
 use Rattle.order.proofs.entry_span.Statement.{statement}
 use Rattle.order.proofs.entry_span.Tie as tie
