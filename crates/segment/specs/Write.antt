@@ -87,10 +87,10 @@ entryMarks e k =
     then must (eqb (e .imported) 1 || eqb (e .source) 0) (Record k)
 
 -- 15: start + count passes the end of the lent digests or extents
-unfoldable pub entryLists : Request → Entry → ℕ → Verdict
-entryLists q e k =
-    must (leb (e .digestStart + e .digestLength) (length (q .digests))) (ListEnd k)
-    then must (leb (e .firstExtent + e .extentCount) (listedExtents (q .extents))) (ListEnd k)
+unfoldable pub entryLists : List ℕ → List ℕ → Entry → ℕ → Verdict
+entryLists digests extents e k =
+    must (leb (e .digestStart + e .digestLength) (length digests)) (ListEnd k)
+    then must (leb (e .firstExtent + e .extentCount) (listedExtents extents)) (ListEnd k)
 
 -- 8: unknown hash id, or wrong length; one that is too wide is unknown, or wrong
 unfoldable pub entryDigest : List ℕ → Entry → ℕ → Verdict
@@ -112,17 +112,20 @@ allListedFit [] = true
 allListedFit (e ∷ es) = listedFits e && allListedFit es
 
 -- 10: a number too wide in an extent, an extent passes 2^32, or the sum passes the limit
-unfoldable pub entryTotal : Shape → Request → Entry → ℕ → Verdict
-entryTotal sh q e k =
-    must (allListedFit (entryExtents (q .extents) e)) (Total k)
-    then must (leb (sumLengths (entryExtents (q .extents) e)) (sh .totalLimit)) (Total k)
+unfoldable pub entryTotal : Shape → List Extent → ℕ → Verdict
+entryTotal sh es k = must (allListedFit es) (Total k) then must (leb (sumLengths es) (sh .totalLimit)) (Total k)
 
-unfoldable pub entryRules : Shape → List ℕ → Request → Entry → ℕ → Verdict
-entryRules sh pairs q e k =
-    entryMarks e k then entryLists q e k then entryDigest pairs e k then entryPlaces e k then entryTotal sh q e k
+-- one entry, which is number k, over a run of digest bytes and a list of extents
+unfoldable pub entryRules : Shape → List ℕ → List ℕ → List ℕ → Entry → ℕ → Verdict
+entryRules sh pairs digests extents e k =
+    entryMarks e k
+    then entryLists digests extents e k
+    then entryDigest pairs e k
+    then entryPlaces e k
+    then entryTotal sh (entryExtents extents e) k
 
-unfoldable pub entryVerdict : Shape → List ℕ → Request → ℕ → Verdict
-entryVerdict sh pairs q k = entryRules sh pairs q (entryNo (q .entries) k) k
+unfoldable pub entryVerdict : Shape → List ℕ → List ℕ → List ℕ → List ℕ → ℕ → Verdict
+entryVerdict sh pairs entries digests extents k = entryRules sh pairs digests extents (entryNo entries k) k
 
 unfoldable pub entryDigestBytes : List ℕ → Entry → List ℕ
 entryDigestBytes digests e = take (e .digestLength) (drop (e .digestStart) digests)
@@ -131,16 +134,16 @@ entryDigestBytes digests e = take (e .digestLength) (drop (e .digestStart) diges
 unfoldable pub entryKey : List ℕ → List ℕ → ℕ → List ℕ
 entryKey entries digests k = keyOf (entryNo entries k .hashId) (entryDigestBytes digests (entryNo entries k))
 
--- the record that an entry asks for
-unfoldable pub entryRow : Request → ℕ → Row
-entryRow q k =
-    let e = entryNo (q .entries) k in
+-- the record that entry k asks for
+unfoldable pub entryRow : List ℕ → List ℕ → List ℕ → ℕ → Row
+entryRow entries digests extents k =
+    let e = entryNo entries k in
     record {
       hashId = e .hashId;
-      digest = entryDigestBytes (q .digests) e;
+      digest = entryDigestBytes digests e;
       visibility = e .visibility;
       source = sourceOf (e .imported) (e .source);
-      state = cond (entryGone e) gone (live (entryExtents (q .extents) e));
+      state = cond (entryGone e) gone (live (entryExtents extents e));
     }
 
 -- the meaning that is asked for
@@ -148,17 +151,20 @@ unfoldable pub requested : Request → Meaning
 requested q = record {
   heading = q .heading;
   bloom = q .bloom;
-  records = map (entryRow q) (countFrom 0 (entryCount (q .entries)));
+  records = map (entryRow (q .entries) (q .digests) (q .extents)) (countFrom 0 (entryCount (q .entries)));
 }
+
+-- 16 for the entry count and 5; the entries; 12. Of a run of bloom bytes, of which there are some number
+unfoldable pub requestRules : Shape → List ℕ → ℕ → List ℕ → List ℕ → List ℕ → Verdict
+requestRules sh pairs bloom entries digests extents =
+    must (leb (entryCount entries) recordLimit) Large
+    then must (eqb (bloom % 8) 0) Layout
+    then firstOver (entryCount entries) (entryVerdict sh pairs entries digests extents)
+    then firstOver (entryCount entries) (freshKey (entryKey entries digests))
 
 -- everything before the size
 unfoldable pub requestVerdict : Shape → List ℕ → Request → Verdict
-requestVerdict sh pairs q =
-    tableVerdict pairs
-    then must (leb (entryCount (q .entries)) recordLimit) Large
-    then must (eqb (length (q .bloom) % 8) 0) Layout
-    then firstOver (entryCount (q .entries)) (entryVerdict sh pairs q)
-    then firstOver (entryCount (q .entries)) (freshKey (entryKey (q .entries) (q .digests)))
+requestVerdict sh pairs q = tableVerdict pairs then requestRules sh pairs (length (q .bloom)) (q .entries) (q .digests) (q .extents)
 
 unfoldable pub wrote : List ℕ → Request → ℕ → Written
 wrote pairs q room = settled (requestVerdict v3 pairs q) (tidyForm v3 (requested q)) room
