@@ -3,7 +3,7 @@
 -- last item is not read. A lent number too wide for its field gives 7 in visibility, marks or source, 8 in hash id or digest length,
 -- 9 in extent count, 10 in an extent.
 --   Request           what write is lent besides the table and the output
---   Entry, entryNo    nine numbers, and the k-th nine of a flat list
+--   entryNo           the k-th entry of a flat list, nine numbers to an entry
 --   wrote             what write answers
 --   writeOf           the same in document 01's numbers, and what it leaves in the output
 -- Assumes nothing: these are definitions.
@@ -17,6 +17,7 @@ use Rattle.rules.specs.declared.Verdict.{Verdict}
 use Rattle.rules.specs.declared.Written.{Written}
 use Rattle.rules.specs.Rules.{must, _then_, firstOver}
 use Rattle.segment.specs.declared.header.Heading.{Heading}
+use Rattle.segment.specs.declared.entry.Entry.{Entry}
 use Rattle.segment.specs.declared.extent.Extent.{Extent}
 use Rattle.segment.specs.Format.{Shape, v3, recordLimit, inBlock}
 use Rattle.segment.specs.Table.{tableVerdict, allows}
@@ -32,17 +33,6 @@ pub record Request : Type 0 where
   pub digests : List ℕ
   pub extents : List ℕ
 
-pub record Entry : Type 0 where
-  pub hashId : ℕ
-  pub digestStart : ℕ
-  pub digestLength : ℕ
-  pub visibility : ℕ
-  pub imported : ℕ
-  pub source : ℕ
-  pub gone : ℕ
-  pub firstExtent : ℕ
-  pub extentCount : ℕ
-
 -- the whole items of a flat list: nine numbers to an entry, three to an extent
 abbrev pub entryCount : List ℕ → ℕ
 entryCount xs = length xs / 9
@@ -52,15 +42,15 @@ listedExtents xs = length xs / 3
 
 unfoldable pub entryNo : List ℕ → ℕ → Entry
 entryNo xs k = record {
-  hashId = getD xs (9 * k) 0;
-  digestStart = getD xs (9 * k + 1) 0;
-  digestLength = getD xs (9 * k + 2) 0;
+  «hash_id» = getD xs (9 * k) 0;
+  «digest_start» = getD xs (9 * k + 1) 0;
+  «digest_length» = getD xs (9 * k + 2) 0;
   visibility = getD xs (9 * k + 3) 0;
   imported = getD xs (9 * k + 4) 0;
   source = getD xs (9 * k + 5) 0;
   gone = getD xs (9 * k + 6) 0;
-  firstExtent = getD xs (9 * k + 7) 0;
-  extentCount = getD xs (9 * k + 8) 0;
+  «first_extent» = getD xs (9 * k + 7) 0;
+  «extent_count» = getD xs (9 * k + 8) 0;
 }
 
 unfoldable pub listedExtent : List ℕ → ℕ → Extent
@@ -72,7 +62,7 @@ extentsFrom xs j zero = []
 extentsFrom xs j (suc n) = listedExtent xs j ∷ extentsFrom xs (suc j) n
 
 abbrev pub entryExtents : List ℕ → Entry → List Extent
-entryExtents xs e = extentsFrom xs (e .firstExtent) (e .extentCount)
+entryExtents xs e = extentsFrom xs (e .«first_extent») (e .«extent_count»)
 
 abbrev pub entryGone : Entry → Bool
 entryGone e = eqb (e .gone) 1
@@ -89,19 +79,19 @@ entryMarks e k =
 -- 15: start + count passes the end of the lent digests or extents
 unfoldable pub entryLists : List ℕ → List ℕ → Entry → ℕ → Verdict
 entryLists digests extents e k =
-    must (leb (e .digestStart + e .digestLength) (length digests)) (ListEnd k)
-    then must (leb (e .firstExtent + e .extentCount) (listedExtents extents)) (ListEnd k)
+    must (leb (e .«digest_start» + e .«digest_length») (length digests)) (ListEnd k)
+    then must (leb (e .«first_extent» + e .«extent_count») (listedExtents extents)) (ListEnd k)
 
 -- 8: unknown hash id, or wrong length; one that is too wide is unknown, or wrong
 unfoldable pub entryDigest : List ℕ → Entry → ℕ → Verdict
-entryDigest pairs e k = must (allows pairs (e .hashId) (e .digestLength)) (Digest k)
+entryDigest pairs e k = must (allows pairs (e .«hash_id») (e .«digest_length»)) (Digest k)
 
 -- 9: gone with first extent or count not 0; not gone with none; or a count too wide
 unfoldable pub entryPlaces : Entry → ℕ → Verdict
 entryPlaces e k =
     cond (entryGone e)
-    (must (eqb (e .firstExtent) 0) (Extents k) then must (eqb (e .extentCount) 0) (Extents k))
-    (must (leb 1 (e .extentCount)) (Extents k) then must (ltb (e .extentCount) 4294967296) (Extents k))
+    (must (eqb (e .«first_extent») 0) (Extents k) then must (eqb (e .«extent_count») 0) (Extents k))
+    (must (leb 1 (e .«extent_count»)) (Extents k) then must (ltb (e .«extent_count») 4294967296) (Extents k))
 
 -- an extent whose numbers fit their fields, and which lies inside its block
 abbrev pub listedFits : Extent → Bool
@@ -128,18 +118,18 @@ unfoldable pub entryVerdict : Shape → List ℕ → List ℕ → List ℕ → L
 entryVerdict sh pairs entries digests extents k = entryRules sh pairs digests extents (entryNo entries k) k
 
 unfoldable pub entryDigestBytes : List ℕ → Entry → List ℕ
-entryDigestBytes digests e = take (e .digestLength) (drop (e .digestStart) digests)
+entryDigestBytes digests e = take (e .«digest_length») (drop (e .«digest_start») digests)
 
 -- the key of entry k, of a list of entries over a run of digest bytes
 unfoldable pub entryKey : List ℕ → List ℕ → ℕ → List ℕ
-entryKey entries digests k = keyOf (entryNo entries k .hashId) (entryDigestBytes digests (entryNo entries k))
+entryKey entries digests k = keyOf (entryNo entries k .«hash_id») (entryDigestBytes digests (entryNo entries k))
 
 -- the record that entry k asks for
 unfoldable pub entryRow : List ℕ → List ℕ → List ℕ → ℕ → Row
 entryRow entries digests extents k =
     let e = entryNo entries k in
     record {
-      hashId = e .hashId;
+      hashId = e .«hash_id»;
       digest = entryDigestBytes digests e;
       visibility = e .visibility;
       source = sourceOf (e .imported) (e .source);
