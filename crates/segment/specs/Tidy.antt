@@ -22,7 +22,9 @@ use Rattle.rules.specs.Rules.{must, _then_, after}
 use Rattle.rules.specs.Answers.{Answer, writtenAnswer}
 use Rattle.segment.specs.declared.header.Header.{Header}
 use Rattle.segment.specs.declared.header.Heading.{Heading}
+use Rattle.segment.specs.declared.record.Record.{Record}
 use Rattle.segment.specs.declared.extent.Extent.{Extent}
+use Rattle.segment.specs.declared.footer.Footer.{Footer}
 use Rattle.segment.specs.Format.{Shape, v3, headerSize, extentSize, fileLimit, inFile}
 use Rattle.segment.specs.Keys.{lexLeq, sortBy}
 use Rattle.segment.specs.Check.{sumLengths, bloomPlace, checked}
@@ -69,6 +71,17 @@ totalHere sh total = cond (eqb (sh .totalAt) 28) total 0
 abbrev pub totalAfter : Shape → ℕ → List Field
 totalAfter sh total = cond (eqb (sh .totalAt) 28) [] (record { width = sh .totalWidth; value = total } ∷ [])
 
+unfoldable pub recordFields : Shape → Record → List Field
+recordFields sh r =
+    u32 (r .«hash_id») ∷ u16 (r .«digest_length») ∷ u16 (r .reserved) ∷ u64 (r .«digest_offset» .0) ∷ u64 (r .«extents_offset» .0)
+    ∷ u32 (r .«extent_count») ∷ u32 (totalHere sh (r .«total_length»)) ∷ u32 (r .domain) ∷ u8 (r .visibility) ∷ u8 (r .imported)
+    ∷ u16 (r .«reserved_last») ∷ u32 (r .source) ∷ u32 (r .flags) ∷ totalAfter sh (r .«total_length»)
+
+unfoldable pub footerFields : Footer → List Field
+footerFields f = u64 (f .checksum) ∷ u64 (f .«seal_snapshot») ∷ u64 (f .«seal_time») ∷ []
+
+-- ---- the record of a row
+
 abbrev pub importedOf : Source → ℕ
 importedOf None = 0
 importedOf (Domain d) = 1
@@ -87,18 +100,29 @@ placeOf gone at = 0
 placeOf (live es) at = at
 
 -- a row whose digest lies at one place and whose extents at another
-unfoldable pub recordFields : Shape → ℕ → Row → ℕ → ℕ → List Field
-recordFields sh domain r digestAt extentsAt =
-    u32 (r .hashId) ∷ u16 (length (r .digest)) ∷ u16 0 ∷ u64 digestAt ∷ u64 (placeOf (r .state) extentsAt)
-    ∷ u32 (length (rowExtents r)) ∷ u32 (totalHere sh (sumLengths (rowExtents r))) ∷ u32 domain ∷ u8 (r .visibility)
-    ∷ u8 (importedOf (r .source)) ∷ u16 0 ∷ u32 (domainOf (r .source)) ∷ u32 (flagsOf (r .state)) ∷ totalAfter sh (sumLengths (rowExtents r))
+unfoldable pub recordFor : ℕ → Row → ℕ → ℕ → Record
+recordFor domain r digestAt extentsAt = record {
+  «hash_id» = r .hashId;
+  «digest_length» = length (r .digest);
+  reserved = 0;
+  «digest_offset» = inFile digestAt;
+  «extents_offset» = inFile (placeOf (r .state) extentsAt);
+  «extent_count» = length (rowExtents r);
+  «total_length» = sumLengths (rowExtents r);
+  domain = domain;
+  visibility = r .visibility;
+  imported = importedOf (r .source);
+  «reserved_last» = 0;
+  source = domainOf (r .source);
+  flags = flagsOf (r .state);
+}
 
 -- ---- the sections
 
 unfoldable pub recordsBytes : Shape → ℕ → List Row → ℕ → ℕ → List ℕ
 recordsBytes sh domain [] digestAt extentsAt = []
 recordsBytes sh domain (r ∷ rs) digestAt extentsAt =
-    packed (recordFields sh domain r digestAt extentsAt)
+    packed (recordFields sh (recordFor domain r digestAt extentsAt))
     ++ recordsBytes sh domain rs (digestAt + length (r .digest)) (extentsAt + extentSize * length (rowExtents r))
 
 unfoldable pub digestBytes : List Row → List ℕ
@@ -168,7 +192,7 @@ formBody sh t bloom rs =
 unfoldable pub formOf : Shape → Heading → List ℕ → List Row → List ℕ
 formOf sh t bloom rs =
     let body = formBody sh t bloom rs in
-    body ++ packed (u64 (crc body) ∷ u64 (t .«seal_snapshot») ∷ u64 (t .«seal_time») ∷ [])
+    body ++ packed (footerFields (record { checksum = crc body; «seal_snapshot» = t .«seal_snapshot»; «seal_time» = t .«seal_time» }))
 
 abbrev pub rowLeq : Row → Row → Bool
 rowLeq a b = lexLeq (rowKey a) (rowKey b)
