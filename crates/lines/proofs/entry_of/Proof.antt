@@ -1,0 +1,21 @@
+-- `lines::entry_of` meets its contract: each kind's own numbers.
+use native.Mathlib.Omega.{arith}
+use borrow.Author.Needs.{needs}
+use Rattle.order.proofs.Arms.{record-stands, entry-stands}
+use Rattle.lines.proofs.Columns.{record-entry, entry-entry}
+use Rattle.lines.proofs.entry_of.Statement.{statement}
+use Rattle.lines.proofs.entry_of.Tie as tie
+
+pub entry-of-spec : {M : Type 1} → statement M
+entry-of-spec =
+    tie.close
+    (tie.spec
+    (λ c. search needs)
+    (λ c. let s = record-stands _ _ _ _ (c .before .kind .given .0 .0) (cc) (c .before .before .before .before .before .pre) in omega arith)
+    (λ c. let s = record-stands _ _ _ _ (c .before .kind .given .0 .0) (cc) (c .before .before .before .before .before .pre) in omega arith)
+    (λ c κs. let s = record-stands _ _ _ _ (c .before .kind .given .0 .0) (cc) (c .before .before .before .before .before .pre) in omega arith)
+    (λ c κs. search needs)
+    (λ c. search needs)
+    (λ c κs. let s = entry-stands _ _ _ _ (cc) (c .before .before .before .before .pre) in omega arith)
+    (λ c. record-entry _ _ _ _ (c .before .before .before .kind .given .0 .0) _ _ (cc) (c .before .at .ensures) (c .entry-of-record .ensures))
+    (λ c. entry-entry _ _ _ _ _ (cc) (c .at2 .ensures)))

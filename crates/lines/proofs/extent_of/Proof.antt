@@ -1,0 +1,20 @@
+-- `lines::extent_of` meets its contract: each kind's own extents.
+use native.Mathlib.Omega.{arith}
+use borrow.Author.Needs.{needs}
+use Rattle.lines.proofs.Columns.{record-held, entry-held, record-extent, entry-extent}
+use Rattle.lines.proofs.extent_of.Statement.{statement}
+use Rattle.lines.proofs.extent_of.Tie as tie
+
+pub extent-of-spec : {M : Type 1} → statement M
+extent-of-spec =
+    tie.close
+    (tie.spec
+    (λ c. search needs)
+    (λ c. let h = record-held _ _ _ _ (c .before .kind .given .0 .0) _ (cc) (c .before .before .before .before .before .pre) in omega arith)
+    (λ c. let h = record-held _ _ _ _ (c .before .kind .given .0 .0) _ (cc) (c .before .before .before .before .before .pre) in omega arith)
+    (λ c κs. let h = record-held _ _ _ _ (c .before .kind .given .0 .0) _ (cc) (c .before .before .before .before .before .pre) in omega arith)
+    (λ c. search needs)
+    (λ c. let h = entry-held _ _ _ _ _ (cc) (c .before .before .before .before .pre) in omega arith)
+    (λ c κs. let h = entry-held _ _ _ _ _ (cc) (c .before .before .before .before .pre) in omega arith)
+    (λ c. record-extent _ _ _ _ _ (c .before .before .kind .given .0 .0) _ (cc) (c .at .ensures))
+    (λ c. entry-extent _ _ _ _ _ _ (cc) (c .listed-extent .ensures)))

@@ -1,0 +1,24 @@
+-- `lines::total_of` meets its contract: each kind's own total.
+use native.Mathlib.Omega.{arith}
+use borrow.Author.Needs.{needs}
+use Rattle.order.proofs.Arms.{record-stands, entry-stands}
+use Rattle.lines.proofs.Columns.{record-total, listed-held, listed-fits, entry-total}
+use Rattle.lines.proofs.total_of.Statement.{statement}
+use Rattle.lines.proofs.total_of.Tie as tie
+
+pub total-of-spec : {M : Type 1} → statement M
+total-of-spec =
+    tie.close
+    (tie.spec
+    (λ c. search needs)
+    (λ c. let s = record-stands _ _ _ _ (c .before .kind .given .0 .0) (cc) (c .before .before .before .before .before .before .pre .counted .item) in omega arith)
+    (λ c. let s = record-stands _ _ _ _ (c .before .kind .given .0 .0) (cc) (c .before .before .before .before .before .before .pre .counted .item) in omega arith)
+    (λ c κs. let s = record-stands _ _ _ _ (c .before .kind .given .0 .0) (cc) (c .before .before .before .before .before .before .pre .counted .item) in omega arith)
+    (λ c. search needs)
+    (λ c κs. let s = entry-stands _ _ _ _ (cc) (c .before .before .before .before .before .pre .counted .item) in omega arith)
+    (λ c κs. let l = c .before .before .before .before .before .before .pre in (
+      listed-held _ _ _ _ _ _ (cc) (c .at .ensures) l,
+      listed-fits _ _ _ _ _ _ (cc) (c .at .ensures) l,
+    ))
+    (λ c. record-total _ _ _ _ _ (c .before .before .kind .given .0 .0) _ (cc) (c .total-length .ensures))
+    (λ c. entry-total _ _ _ _ _ _ (cc) (c .before .at .ensures) _ (c .sum-listed .ensures)))
