@@ -4,20 +4,11 @@ use Prim.Native.Nat.{ℕ, _+_, _%_, _^_, _≤_}
 use mathlib.Core.Path.{_≡_, refl, sym, ap, _∙_}
 use mathlib.Core.List.{List, [], _∷_, _++_, append-nil, append-assoc}
 use native.Mathlib.Omega.{arith}
-use lib.ListN.{length, length-append}
+use lib.ListN.{length}
 use Rattle.numbers.specs.Numbers.{bytesOf, put}
-use Rattle.numbers.proofs.Laws.{length-bytesOf, bytesOf-mod, put-put}
+use Rattle.numbers.proofs.Laws.{bytesOf-mod, put-put}
 use Rattle.segment.specs.Tidy.{Field, packed}
-
--- the bytes that fields take
-unfoldable pub widths : List Field → ℕ
-widths [] = 0
-widths (f ∷ fs) = f .width + widths fs
-
-pub length-packed : (fs : List Field) → length (packed fs) ≡ widths fs
-unfolding packed widths
-length-packed [] = refl
-length-packed (f ∷ fs) = length-append (bytesOf (f .width) (f .value)) (packed fs) ∙ omega (arith, length-bytesOf (f .width) (f .value), length-packed fs)
+use Rattle.form.proofs.Fields.{widths, length-packed}
 
 pub packed-append : (fs gs : List Field) → packed (fs ++ gs) ≡ packed fs ++ packed gs
 unfolding packed

@@ -2,7 +2,8 @@
 use native.Mathlib.Omega.{arith}
 use borrow.Author.Needs.{needs}
 use Rattle.fields.specs.Groups.{kindFields, countFields, frontFields}
-use Rattle.fields.proofs.Packing.{groups-2, widths}
+use Rattle.form.proofs.Fields.{widths}
+use Rattle.fields.proofs.Packing.{groups-2}
 use Rattle.fields.proofs.put_front.Statement.{statement}
 use Rattle.fields.proofs.put_front.Tie as tie
 

@@ -3,7 +3,8 @@ use native.Mathlib.Omega.{arith}
 use borrow.Author.Needs.{needs}
 use Rattle.segment.specs.Tidy.{headerFields}
 use Rattle.fields.specs.Groups.{kindFields, countFields, frontFields, sectionFields, extentsFields, lastFields}
-use Rattle.fields.proofs.Packing.{groups-4, widths}
+use Rattle.form.proofs.Fields.{widths}
+use Rattle.fields.proofs.Packing.{groups-4}
 use Rattle.fields.proofs.put_header.Statement.{statement}
 use Rattle.fields.proofs.put_header.Tie as tie
 

@@ -3,7 +3,8 @@ use native.Mathlib.Omega.{arith}
 use borrow.Author.Needs.{needs}
 use Rattle.segment.specs.Tidy.{recordFields}
 use Rattle.fields.specs.Groups.{identityFields, slicesFields, ownerFields, markFields}
-use Rattle.fields.proofs.Packing.{groups-4, widths}
+use Rattle.form.proofs.Fields.{widths}
+use Rattle.fields.proofs.Packing.{groups-4}
 use Rattle.fields.proofs.put_record.Statement.{statement}
 use Rattle.fields.proofs.put_record.Tie as tie
 

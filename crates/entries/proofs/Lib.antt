@@ -1,0 +1,4 @@
+pub mod ListRows
+pub mod ContentRows
+pub mod Books
+pub mod Whole

@@ -1,0 +1,24 @@
+-- `entries::check_request` meets its contract: the count, the bloom bytes, the entries, and then their keys.
+use mathlib.Core.Path.{sym, _∙_}
+use borrow.Author.Needs.{needs}
+use native.Mathlib.Omega.{arith}
+use Rattle.entries.proofs.Books.{entries-book, entries-stand}
+use Rattle.entries.proofs.Whole.{too-many, bloom-odd, entries-stop, keys-told}
+use Rattle.entries.proofs.check_request.Statement.{statement}
+use Rattle.entries.proofs.check_request.Tie as tie
+
+readable : tie.Need-check-keys-requires
+readable c κs = entries-stand _ _ _ _ _ (entries-book _ _ _ _ _ _ .0 (sym (c .before .before .check-entries .ensures) ∙ (cc)))
+
+pub check-request-spec : {M : Type 1} → statement M
+check-request-spec =
+    tie.close
+    (tie.spec
+    (λ c. too-many _ _ _ _ _ (omega arith))
+    (λ c. bloom-odd _ _ _ _ _ (omega arith) (omega arith))
+    (λ c κs. search needs)
+    (λ c. search needs)
+    (λ c. entries-stop _ _ _ _ _ (omega arith) (omega arith) _ (cc))
+    (λ c. search needs)
+    readable
+    (λ c. keys-told _ _ _ _ _ (omega arith) (omega arith) (cc) (c .check-keys .ensures)))

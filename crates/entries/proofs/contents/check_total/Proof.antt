@@ -1,0 +1,53 @@
+-- `entries::contents::check_total` meets its contract: what is left of the extents decides.
+use Prim.Native.Nat.{_-_}
+use borrow.Author.Needs.{needs}
+use native.Mathlib.Omega.{arith}
+use Rattle.entries.proofs.ContentRows.{Adding, add-start, size-fits, add-more, total-past, total-great, total-accepted}
+use Rattle.entries.proofs.contents.check_total.Statement.{statement}
+use Rattle.entries.proofs.contents.check_total.Tie as tie
+
+abbrev Inv-loop : tie.InvT-loop
+Inv-loop extents k first count sum₀ i₀ sum i = Adding extents first count i sum
+
+abbrev μ-loop : tie.MeasureT-loop
+μ-loop extents k first count sum₀ i₀ sum i = count - i
+
+past : tie.Need-returns Inv-loop μ-loop
+past c =
+    let loop = c .before .before .before .before in
+    total-past _ _ _ _ _ (loop .before .loop .inv) (omega arith) _ (c .before .extent-fits .ensures) _ (c .if1 .taken)
+
+small : tie.Need-add-sum Inv-loop μ-loop
+small c =
+    let loop = c .before .before .before .before in
+    let l = size-fits _ _ _ _ _ (loop .before .loop .inv) (omega arith) _ (c .before .extent-fits .ensures) (c .if1 .left) in
+    omega arith
+
+more : tie.Need-loop-again Inv-loop μ-loop
+more c =
+    let loop = c .before .before .before .before in
+    add-more _ _ _ _ _ (loop .before .loop .inv) (omega arith) _ (c .before .extent-fits .ensures) (c .if1 .left)
+
+pub check-total-spec : {M : Type 1} → statement M
+check-total-spec =
+    tie.close
+    (tie.spec
+    Inv-loop
+    μ-loop
+    (λ c. add-start _ _ _)
+    (λ c. omega arith)
+    (λ c. omega arith)
+    (λ c. omega arith)
+    (λ c. omega arith)
+    (λ c. omega arith)
+    (λ c. omega arith)
+    (λ c. omega arith)
+    (λ c. omega arith)
+    (λ c κs. search needs)
+    past
+    small
+    (λ c. omega arith)
+    (λ c. search needs)
+    more
+    (λ c. total-great _ _ _ _ _ _ (c .before .before .loop .inv) (omega arith) (omega arith))
+    (λ c. total-accepted _ _ _ _ _ _ (c .before .before .loop .inv) (omega arith) (omega arith)))

@@ -1,0 +1,14 @@
+-- `entries::contents::extent_fits` meets its contract: a row for each return.
+use borrow.Author.Needs.{needs}
+use Rattle.entries.proofs.ContentRows.{fits-rows}
+use Rattle.entries.proofs.contents.extent_fits.Statement.{statement}
+use Rattle.entries.proofs.contents.extent_fits.Tie as tie
+
+pub extent-fits-spec : {M : Type 1} → statement M
+extent-fits-spec =
+    tie.close
+    (tie.spec
+    (λ c. search fits-rows)
+    (λ c. search fits-rows)
+    (λ c. search needs)
+    (λ c. search fits-rows))

@@ -1,0 +1,78 @@
+// The check of what write is lent, between the table and the size: 16 for the entry count, 5 for the bloom bytes, the entries
+// by number, and 12.
+ghost use mathlib.Core.Path.{_≡_};
+ghost use Rattle.rules.specs.Rules.{firstOver};
+ghost use Rattle.segment.specs.Format.{v3};
+ghost use Rattle.segment.specs.Write.{entryCount, entryRules, entryVerdict, requestRules};
+use order::Kind;
+use rules::Refusal;
+use rules::Verdict;
+use segment::entry::Entry;
+
+// The numbers of a listed extent: block, offset and length.
+const EXTENT: usize = 3;
+
+mod contents;
+mod lists;
+
+fn check_entry(pairs: &[u64], digests: &[u8], extents: &[u64], e: Entry, k: usize) -> Verdict
+    ensures { λ v. ⌜ v ≡ entryRules v3 (now (pairs .entry)) (now (digests .entry)) (now (extents .entry)) e k ⌝ }
+{
+    match lists::check_marks(e, k) {
+        Verdict::Refused(x) => {
+            return Verdict::Refused(x);
+        }
+        Verdict::Accepted => {}
+    }
+    match lists::check_lists(digests, extents, e, k) {
+        Verdict::Refused(x) => {
+            return Verdict::Refused(x);
+        }
+        Verdict::Accepted => {}
+    }
+    contents::check_contents(pairs, extents, e, k)
+}
+
+// Every whole entry of the list.
+fn check_entries(pairs: &[u64], entries: &[u64], digests: &[u8], extents: &[u64]) -> Verdict
+    ensures { λ r. ⌜ r ≡ firstOver (entryCount (now (entries .entry))) (entryVerdict v3 (now (pairs .entry)) (now (entries .entry)) (now (digests .entry)) (now (extents .entry))) ⌝ }
+{
+    let count = entries.len() / Entry::SIZE;
+    let mut k = 0;
+    while k < count {
+        match check_entry(pairs, digests, extents, Entry::at(entries, k), k) {
+            Verdict::Refused(x) => {
+                return Verdict::Refused(x);
+            }
+            Verdict::Accepted => {}
+        }
+        k += 1;
+    }
+    Verdict::Accepted
+}
+
+// `bloom` is the number of bloom bytes; which they are does not matter here.
+pub fn check_request(
+    pairs: &[u64],
+    bloom: usize,
+    entries: &[u64],
+    digests: &[u8],
+    extents: &[u64],
+) -> Verdict
+    ensures { λ r. ⌜ r ≡ requestRules v3 (now (pairs .entry)) bloom (now (entries .entry)) (now (digests .entry)) (now (extents .entry)) ⌝ }
+{
+    let n = entries.len() / Entry::SIZE;
+    if 65536 < n {
+        return Verdict::Refused(Refusal::Large);
+    }
+    if bloom % 8 != 0 {
+        return Verdict::Refused(Refusal::Layout);
+    }
+    match check_entries(pairs, entries, digests, extents) {
+        Verdict::Refused(x) => {
+            return Verdict::Refused(x);
+        }
+        Verdict::Accepted => {}
+    }
+    order::check_keys(Kind::Entries, digests, entries, n)
+}

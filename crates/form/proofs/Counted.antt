@@ -1,0 +1,75 @@
+-- What holds of each element, or of each two, of a list f k, f (k + 1), .., n of them: said of the list and said of the numbers.
+-- Assumes nothing.
+use Prim.Native.Nat.{ℕ, zero, suc, _+_, _≤_, _<_}
+use mathlib.Core.Path.{_≡_, refl, sym, ap, subst}
+use mathlib.Core.Logic.{_↔_, by-cases, ⊎-elim, ∥∥₁-elim}
+use mathlib.Core.List.{map, List·Mem, List·Memᴰ, List·Memᴰ·head, List·Memᴰ·not-nil, List·Memᴰ·cases-cons, mem-cons-of-mem, Pairwise, Pairwise·nil, Pairwise·cons, rel-of-pairwise-cons, Pairwise·of-cons}
+use native.Mathlib.Decide.{ℕ-discrete}
+use native.Mathlib.Omega.{arith}
+use lib.ListN.{length}
+use Rattle.segment.specs.Meaning.{countFrom}
+use Rattle.order.specs.Order.{Each}
+
+module _ {A : Type 0} (f : ℕ → A) where
+  pub counted-long : (k n : ℕ) → length (map f (countFrom k n)) ≡ n
+  unfolding countFrom
+  counted-long k zero = refl
+  counted-long k (suc n) = ap suc (counted-long (suc k) n)
+
+  -- the members are the elements
+  member : (k n i : ℕ) → k ≤ i → i < k + n → List·Mem (f i) (map f (countFrom k n))
+  unfolding countFrom
+  member k zero i l u = absurd (omega arith)
+  member k (suc n) i l u =
+      by-cases (ℕ-discrete i k)
+      (λ (e : i ≡ k). ∣ List·Memᴰ·head (ap f e) ∣₁)
+      (λ (e : ¬ (i ≡ k)). mem-cons-of-mem (f k) (member (suc k) n i (omega arith) (omega arith)))
+
+  number : (k n : ℕ) {a : A} → List·Memᴰ a (map f (countFrom k n)) → (i : ℕ) × (k ≤ i) × (i < k + n) × (a ≡ f i)
+  unfolding countFrom
+  number k zero m = absurd (List·Memᴰ·not-nil m)
+  number k (suc n) {a} m =
+      ⊎-elim
+      (λ (e : a ≡ f k). (k, omega arith, omega arith, e))
+      (λ (m′ : List·Memᴰ a (map f (countFrom (suc k) n))). let i = number (suc k) n m′ in (i .0, omega arith, omega arith, i .3))
+      (List·Memᴰ·cases-cons m)
+
+  module _ (P : A → Type 0) where
+    counted-each : (k n : ℕ) → ((i : ℕ) → k ≤ i → i < k + n → P (f i)) → Each P (map f (countFrom k n))
+    unfolding countFrom Each
+    counted-each k zero h = tt
+    counted-each k (suc n) h = (h k (omega arith) (omega arith), counted-each (suc k) n (λ i l u. h i (omega arith) (omega arith)))
+
+    each-counted : (k n : ℕ) → Each P (map f (countFrom k n)) → (i : ℕ) → k ≤ i → i < k + n → P (f i)
+    unfolding countFrom Each
+    each-counted k zero e i l u = absurd (omega arith)
+    each-counted k (suc n) e i l u =
+        by-cases (ℕ-discrete i k)
+        (λ (q : i ≡ k). rw q (e .0))
+        (λ (q : ¬ (i ≡ k)). each-counted (suc k) n (e .1) i (omega arith) (omega arith))
+
+    pub each-iff : (n : ℕ) → Each P (map f (countFrom 0 n)) ↔ ((i : ℕ) → i < n → P (f i))
+    each-iff n = (λ e i l. each-counted 0 n e i (omega arith) (omega arith), λ h. counted-each 0 n (λ i l u. h i (omega arith)))
+
+  module _ (R : A → A → Type 0) (prop : (a b : A) → IsProp (R a b)) where
+    counted-pairwise : (k n : ℕ) → ((i j : ℕ) → k ≤ i → i < j → j < k + n → R (f i) (f j)) → Pairwise R (map f (countFrom k n))
+    unfolding countFrom
+    counted-pairwise k zero h = Pairwise·nil
+    counted-pairwise k (suc n) h =
+        Pairwise·cons
+        (λ a m. ∥∥₁-elim m (prop (f k) a) (λ d. let j = number (suc k) n d in subst (R (f k)) (sym (j .3)) (h k (j .0) (omega arith) (omega arith) (omega arith))))
+        (counted-pairwise (suc k) n (λ i j l v u. h i j (omega arith) v (omega arith)))
+
+    pairwise-counted : (k n : ℕ) → Pairwise R (map f (countFrom k n)) → (i j : ℕ) → k ≤ i → i < j → j < k + n → R (f i) (f j)
+    unfolding countFrom
+    pairwise-counted k zero p i j l v u = absurd (omega arith)
+    pairwise-counted k (suc n) p i j l v u =
+        by-cases (ℕ-discrete i k)
+        (λ (q : i ≡ k). rw q (rel-of-pairwise-cons p (member (suc k) n j (omega arith) (omega arith))))
+        (λ (q : ¬ (i ≡ k)). pairwise-counted (suc k) n (Pairwise·of-cons p) i j (omega arith) v (omega arith))
+
+    pub pairwise-iff : (n : ℕ) → Pairwise R (map f (countFrom 0 n)) ↔ ((i j : ℕ) → i < j → j < n → R (f i) (f j))
+    pairwise-iff n = (
+      λ p i j v u. pairwise-counted 0 n p i j (omega arith) v (omega arith),
+      λ h. counted-pairwise 0 n (λ i j l v u. h i j v (omega arith)),
+    )

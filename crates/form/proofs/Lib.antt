@@ -1,0 +1,14 @@
+pub mod Places
+pub mod Fields
+pub mod Structures
+pub mod Shapes
+pub mod Sizes
+pub mod Checksum
+pub mod States
+pub mod Rows
+pub mod Counted
+pub mod Shown
+pub mod Sections
+pub mod Whole
+pub mod Sorted
+pub mod Canonical

@@ -1,0 +1,4 @@
+pub mod Filling
+pub mod Runs
+pub mod Turns
+pub mod Lends
