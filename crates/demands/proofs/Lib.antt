@@ -8,3 +8,5 @@ pub mod Rulebook
 pub mod Stops
 pub mod Refusals
 pub mod LookUps
+pub mod Settling
+pub mod Tidying

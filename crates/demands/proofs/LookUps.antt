@@ -23,15 +23,13 @@ use Rattle.segment.specs.Format.{v3, headerOf, recordCount, recordNo}
 use Rattle.segment.specs.Table.{goodTable, tableVerdict, allows}
 use Rattle.segment.specs.Keys.{keyOf}
 use Rattle.segment.specs.Check.{keyNo, segmentVerdict, checked, checkOf}
-use Rattle.segment.specs.Meets.{Meets}
 use Rattle.segment.specs.LookUp.{keyVerdict, recordFound, foundOver, foundNo, foundIn, foundUnder, lookedUp, lookUpOf, extentsPart}
 use Rattle.order.proofs.Equal.{eqList-iff, unequal}
 use Rattle.find.proofs.Finding.{never-absent, never-refused, found-all, found-first}
 use Rattle.demands.specs.PCases.{accepted}
 use Rattle.demands.specs.LookUps.{HasKey, Finds, LookGiven, by-table, by-key, by-segment}
 use Rattle.demands.specs.Refusals.{Given}
-use Rattle.demands.proofs.TablesHeader.{table-book}
-use Rattle.demands.proofs.Rulebook.{answer-is, under-table, checked-iff}
+use Rattle.demands.proofs.Rulebook.{answer-is, under-table, accepts-iff}
 use Rattle.demands.proofs.Refusals.{refused-iff}
 
 -- a segment that check accepts: the table is good, and 1 to 12 hold
@@ -66,9 +64,7 @@ module _ (pairs s : List ℕ) (hash : ℕ) (digest : List ℕ) (e : checkOf pair
   elsewhere k n = rw (sym (unequal (keyNo v3 s (headerOf s) k) (keyOf hash digest) n))
 
   one : (j k : ℕ) → HasKey s hash digest j → HasKey s hash digest k → j ≡ k
-  one j k p q =
-      let m : Meets v3 pairs s = checked-iff pairs s (table-book pairs .0 (accepted-parts pairs s e .0)) .0 (answer-is pairs s Accepted .0 e) in
-      m .distinct j k (p .within) (q .within) (p .key ∙ sym (q .key))
+  one j k p q = accepts-iff pairs s .0 e .1 .distinct j k (p .within) (q .within) (p .key ∙ sym (q .key))
 
   none-found : ((k : ℕ) → HasKey s hash digest k → ⊥) → lookedUp pairs s hash digest ≡ Absent
   none-found n = looked ∙ found-all (recordCount (headerOf s)) at (λ k l. elsewhere k (λ q. n k (record { within = l; key = q })))

@@ -45,7 +45,7 @@ use Rattle.segment.specs.Check.{
   checked,
   checkOf,
 }
-use Rattle.segment.specs.Tidy.{tidyForm, formOf, formBody, formHeader, packed, headerFields, recordFields, recordsBytes, digestBytes, digestSection, extentListBytes, extentBytes, extentFields}
+use Rattle.segment.specs.Tidy.{tidyForm, formOf, formBody, formHeader, packed, headerFields, recordFields, recordFor, recordsBytes, digestBytes, digestSection, extentListBytes, extentBytes, extentFields, footerFields}
 use Rattle.segment.specs.LookUp.{keyVerdict, recordFound, foundOver, foundNo, foundIn, foundUnder, lookedUp, lookUpOf}
 use Rattle.order.proofs.Equal.{eqList-self}
 use Rattle.demands.specs.PCases.{
@@ -236,14 +236,14 @@ gone-shown = record {
 -- ---- where the sections of a tidy form lie
 
 pub one-row : OneRow
-unfolding tidyForm formOf formBody formHeader sortBy insert packed headerFields recordFields recordsBytes digestBytes digestSection extentListBytes extentBytes extentFields bytesOf headerOf numAt le
+unfolding tidyForm formOf formBody formHeader sortBy insert packed headerFields recordFields recordFor recordsBytes digestBytes digestSection extentListBytes extentBytes extentFields footerFields bytesOf headerOf numAt le
 one-row = record {
   lies = λ t hash a b c d v source e. record { recordsAt = refl; digestsAt = refl; digestsLong = refl; extentsAt = refl; long = refl };
   padded = λ t hash a b c d v source e. refl;
 }
 
 pub case-l : CaseL
-unfolding tidyForm formOf formBody formHeader sortBy insert lexLeq packed headerFields recordFields recordsBytes digestBytes digestSection extentListBytes extentBytes extentFields bytesOf headerOf numAt le
+unfolding tidyForm formOf formBody formHeader sortBy insert lexLeq packed headerFields recordFields recordFor recordsBytes digestBytes digestSection extentListBytes extentBytes extentFields footerFields bytesOf headerOf numAt le
 case-l = λ t. record { recordsAt = refl; digestsAt = refl; digestsLong = refl; extentsAt = refl; long = refl }
 
 -- ---- all of them

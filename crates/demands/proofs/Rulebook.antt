@@ -60,3 +60,8 @@ answer-is pairs s v = (check-settled (checked pairs s) v, ap checkAnswer)
 
 pub accepted-iff : (pairs s : List ℕ) → goodTable pairs ≡ true → (checkOf pairs s ≡ accepted) ↔ Meets v3 pairs s
 accepted-iff pairs s g = simp (answer-is pairs s Accepted, checked-iff pairs s g) Iff·rfl
+
+-- and with the table's own rule: under one that is not good, check accepts nothing
+pub accepts-iff : (pairs s : List ℕ) → (checkOf pairs s ≡ accepted) ↔ (goodTable pairs ≡ true) × Meets v3 pairs s
+unfolding checked
+accepts-iff pairs s = simp (answer-is pairs s Accepted, then-accepted, table-book, segment-book) Iff·rfl

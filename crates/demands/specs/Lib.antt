@@ -1,3 +1,4 @@
 pub mod PCases
 pub mod Refusals
 pub mod LookUps
+pub mod Tidying

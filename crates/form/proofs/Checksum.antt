@@ -17,7 +17,23 @@ use Rattle.segment.specs.declared.header.Heading.{Heading}
 use Rattle.segment.specs.declared.extent.Extent.{Extent}
 use Rattle.segment.specs.Format.{Shape}
 use Rattle.segment.specs.Meaning.{Row, rowExtents}
-use Rattle.segment.specs.Tidy.{Field, packed, headerFields, recordFields, extentFields, recordFor, recordsBytes, digestBytes, lacking, digestSection, extentListBytes, extentBytes, formHeader, formBody, formOf}
+use Rattle.segment.specs.Tidy.{
+  Field,
+  packed,
+  headerFields,
+  recordFields,
+  extentFields,
+  recordFor,
+  recordsBytes,
+  digestBytes,
+  lacking,
+  digestSection,
+  extentListBytes,
+  extentBytes,
+  formHeader,
+  formBody,
+  formOf,
+}
 use Rattle.order.specs.Order.{Each}
 use Rattle.form.specs.Form.{Writable}
 

@@ -3,7 +3,20 @@
 use Prim.Native.Nat.{ℕ, zero, suc, _+_, _≤_, _<_}
 use mathlib.Core.Path.{_≡_, refl, sym, ap, subst}
 use mathlib.Core.Logic.{_↔_, by-cases, ⊎-elim, ∥∥₁-elim}
-use mathlib.Core.List.{map, List·Mem, List·Memᴰ, List·Memᴰ·head, List·Memᴰ·not-nil, List·Memᴰ·cases-cons, mem-cons-of-mem, Pairwise, Pairwise·nil, Pairwise·cons, rel-of-pairwise-cons, Pairwise·of-cons}
+use mathlib.Core.List.{
+  map,
+  List·Mem,
+  List·Memᴰ,
+  List·Memᴰ·head,
+  List·Memᴰ·not-nil,
+  List·Memᴰ·cases-cons,
+  mem-cons-of-mem,
+  Pairwise,
+  Pairwise·nil,
+  Pairwise·cons,
+  rel-of-pairwise-cons,
+  Pairwise·of-cons,
+}
 use native.Mathlib.Decide.{ℕ-discrete}
 use native.Mathlib.Omega.{arith}
 use lib.ListN.{length}
@@ -57,7 +70,8 @@ module _ {A : Type 0} (f : ℕ → A) where
     counted-pairwise k zero h = Pairwise·nil
     counted-pairwise k (suc n) h =
         Pairwise·cons
-        (λ a m. ∥∥₁-elim m (prop (f k) a) (λ d. let j = number (suc k) n d in subst (R (f k)) (sym (j .3)) (h k (j .0) (omega arith) (omega arith) (omega arith))))
+        (λ a m. ∥∥₁-elim m (prop (f k) a)
+        (λ d. let j = number (suc k) n d in subst (R (f k)) (sym (j .3)) (h k (j .0) (omega arith) (omega arith) (omega arith))))
         (counted-pairwise (suc k) n (λ i j l v u. h i j (omega arith) v (omega arith)))
 
     pairwise-counted : (k n : ℕ) → Pairwise R (map f (countFrom k n)) → (i j : ℕ) → k ≤ i → i < j → j < k + n → R (f i) (f j)

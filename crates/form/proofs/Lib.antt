@@ -12,3 +12,4 @@ pub mod Sections
 pub mod Whole
 pub mod Sorted
 pub mod Canonical
+pub mod Meanings

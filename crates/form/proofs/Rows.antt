@@ -1,5 +1,5 @@
 -- The records of a form, one after the other: each is read back as the row it was written for, and keeps the rules of 7 to 10.
---   Sound     the header's domain and sections are within their bounds
+--   Bounded   the header's domain and sections are within their bounds
 --   Placed    the records of some rows stand at a place of a segment, and their digests and extents at two others
 -- Assumes nothing.
 use Prim.Native.Nat.{ℕ, zero, suc, _+_, _-_, _*_, _%_, _≤_, _<_}
@@ -35,7 +35,7 @@ use Rattle.form.proofs.Structures.{extents-long}
 use Rattle.form.proofs.Shapes.{RecordFits, Shaped, record-long, record-read}
 use Rattle.form.proofs.States.{Says, StateFits, state-fits, extents-meet, total-meets, state-read}
 
-pub record Sound (h : Header) : Type 0 where
+pub record Bounded (h : Header) : Type 0 where
   pub domain : h .domain < 4294967296
   pub digests : digestsOffset h + digestsSize h ≤ fileLimit
   pub extents : extentsOffset h + 16 * extentCount h ≤ fileLimit
@@ -51,8 +51,8 @@ pub record Placed (sh : Shape) (pairs s : List ℕ) (h : Header) (rs : List Row)
   pub extentsTo : extentsAt + 16 * extentTotal rs ≤ extentsOffset h + 16 * extentCount h
   pub rows : Each (Writable sh pairs) rs
 
--- a record that is a row's, and keeps its rules
-pub record Written (sh : Shape) (pairs s : List ℕ) (h : Header) (r : Row) (q : Record) : Type 0 where
+-- a record is read as a row, and keeps its rules
+pub record ReadsAs (sh : Shape) (pairs s : List ℕ) (h : Header) (r : Row) (q : Record) : Type 0 where
   pub row : rowOf s q ≡ r
   pub meets : RecordMeets sh pairs s h q
 
@@ -76,9 +76,9 @@ says : (domain : ℕ) (r : Row) (digestAt extentsAt : ℕ) → Says (recordFor d
 unfolding recordFor
 says domain r digestAt extentsAt = record { flags = refl; place = refl; count = refl; total = refl }
 
-module _ (sh : Shape) (k : Shaped sh) (pairs s : List ℕ) (h : Header) (o : Sound h) where
+module _ (sh : Shape) (k : Shaped sh) (pairs s : List ℕ) (h : Header) (o : Bounded h) where
   module _ (r : Row) (rs : List Row) (at digestAt extentsAt : ℕ) (p : Placed sh pairs s h (r ∷ rs) at digestAt extentsAt) where
-    first : Record
+    abbrev first : Record
     first = recordFor (h .domain) r digestAt extentsAt
 
     writable : Writable sh pairs r
@@ -102,9 +102,10 @@ module _ (sh : Shape) (k : Shaped sh) (pairs s : List ℕ) (h : Header) (o : Sou
     extents-end = omega (arith, p .extentsTo)
 
     first-fits : RecordFits sh first
-    unfolding first recordFor
+    unfolding recordFor
     first-fits =
-        let f : StateFits sh first = state-fits sh first (r .state) extentsAt (says (h .domain) r digestAt extentsAt) (writable .state) (omega (arith, extents-end, o .extents)) in
+        let place : extentsAt < 18446744073709551616 = omega (arith, extents-end, o .extents) in
+        let f : StateFits sh first = state-fits sh first (r .state) extentsAt (says (h .domain) r digestAt extentsAt) (writable .state) place in
         record {
           hash = writable .hash;
           size = writable .size;
@@ -122,12 +123,11 @@ module _ (sh : Shape) (k : Shaped sh) (pairs s : List ℕ) (h : Header) (o : Sou
         }
 
     first-read : recordOf sh s at ≡ first
-    unfolding first recordsBytes
-    first-read = record-read sh k s at (recordFor (h .domain) r digestAt extentsAt)
-        (has-left (packed (recordFields sh (recordFor (h .domain) r digestAt extentsAt))) _ (p .records)) first-fits
+    unfolding recordsBytes
+    first-read = record-read sh k s at first (has-left (packed (recordFields sh first)) _ (p .records)) first-fits
 
     row-read : rowOf s first ≡ r
-    unfolding first rowOf recordFor digestIn
+    unfolding rowOf recordFor digestIn
     row-read =
         let digest = has-taken (r .digest) (length (r .digest)) digest-has refl in
         let source = source-read (r .source) in
@@ -135,7 +135,7 @@ module _ (sh : Shape) (k : Shaped sh) (pairs s : List ℕ) (h : Header) (o : Sou
         λ j. record { hashId = r .hashId; digest = digest j; visibility = r .visibility; source = source j; state = state j }
 
     first-meets : RecordMeets sh pairs s h first
-    unfolding first recordFor
+    unfolding recordFor
     first-meets =
         let m = says (h .domain) r digestAt extentsAt in
         let f : RecordFits sh first = first-fits in
@@ -155,25 +155,23 @@ module _ (sh : Shape) (k : Shaped sh) (pairs s : List ℕ) (h : Header) (o : Sou
           total = total-meets sh s first (r .state) extentsAt m (writable .state) extents-have;
         }
 
-    first-written : Written sh pairs s h r (recordOf sh s at)
-    first-written = rw first-read (record { row = row-read; meets = first-meets })
+    first-reads : ReadsAs sh pairs s h r (recordOf sh s at)
+    first-reads = rw first-read (record { row = row-read; meets = first-meets })
 
     -- and the others stand behind it
     others : Placed sh pairs s h rs (at + sh .recordSize) (digestAt + length (r .digest)) (extentsAt + 16 * length (rowExtents r))
     unfolding recordsBytes digestBytes extentBytes Each
-    others =
-        let q : Record = recordFor (h .domain) r digestAt extentsAt in
-        record {
-          records = rw (record-long sh k q) at (has-right (packed (recordFields sh q)) _ (p .records));
-          digests = has-right (r .digest) (digestBytes rs) (p .digests);
-          extents = rw (extents-long (rowExtents r)) at (has-right (extentListBytes (rowExtents r)) (extentBytes rs) (p .extents));
-          digestsFrom = omega (arith, p .digestsFrom);
-          digestsTo = digest-ends;
-          extentsFrom = omega (arith, p .extentsFrom);
-          aligned = omega (arith, p .aligned, p .extentsFrom);
-          extentsTo = extents-end;
-          rows = p .rows .1;
-        }
+    others = record {
+      records = rw (record-long sh k first) at (has-right (packed (recordFields sh first)) _ (p .records));
+      digests = has-right (r .digest) (digestBytes rs) (p .digests);
+      extents = rw (extents-long (rowExtents r)) at (has-right (extentListBytes (rowExtents r)) (extentBytes rs) (p .extents));
+      digestsFrom = omega (arith, p .digestsFrom);
+      digestsTo = digest-ends;
+      extentsFrom = omega (arith, p .extentsFrom);
+      aligned = omega (arith, p .aligned, p .extentsFrom);
+      extentsTo = extents-end;
+      rows = p .rows .1;
+    }
 
   -- ---- all of them
 
@@ -182,7 +180,7 @@ module _ (sh : Shape) (k : Shaped sh) (pairs s : List ℕ) (h : Header) (o : Sou
   unfolding rowNo recordNo countFrom
   rows-read [] at d e j p l = refl
   rows-read (r ∷ rs) at d e j p l =
-      let here : rowOf s (recordOf sh s at) ≡ r = first-written r rs at d e p .row in
+      let here : rowOf s (recordOf sh s at) ≡ r = first-reads r rs at d e p .row in
       let there = rows-read rs _ _ _ (suc j) (others r rs at d e p) (omega arith) in
       rw (← l) cc
 
@@ -191,7 +189,7 @@ module _ (sh : Shape) (k : Shaped sh) (pairs s : List ℕ) (h : Header) (o : Sou
   records-meet [] at d e p j l = absurd (not-suc-le-zero l)
   records-meet (r ∷ rs) at d e p zero l =
       let here : at + sh .recordSize * 0 ≡ at = omega arith in
-      rw here (first-written r rs at d e p .meets)
+      rw here (first-reads r rs at d e p .meets)
   records-meet (r ∷ rs) at d e p (suc j) l =
       let there : at + sh .recordSize * suc j ≡ at + sh .recordSize + sh .recordSize * j = omega arith in
       rw there (records-meet rs _ _ _ (others r rs at d e p) j (omega arith))

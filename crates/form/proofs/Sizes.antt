@@ -13,7 +13,22 @@ use Rattle.segment.specs.declared.header.Heading.{Heading}
 use Rattle.segment.specs.declared.footer.Footer.{Footer}
 use Rattle.segment.specs.Format.{Shape, v3}
 use Rattle.segment.specs.Meaning.{Row, rowExtents}
-use Rattle.segment.specs.Tidy.{packed, recordFields, footerFields, recordFor, recordsBytes, digestBytes, lacking, digestSection, extentListBytes, extentBytes, extentTotal, formHeader, formBody, formOf}
+use Rattle.segment.specs.Tidy.{
+  packed,
+  recordFields,
+  footerFields,
+  recordFor,
+  recordsBytes,
+  digestBytes,
+  lacking,
+  digestSection,
+  extentListBytes,
+  extentBytes,
+  extentTotal,
+  formHeader,
+  formBody,
+  formOf,
+}
 use Rattle.form.proofs.Structures.{header-long, footer-long, extents-long}
 use Rattle.form.proofs.Shapes.{Shaped, v3-shaped, record-long}
 

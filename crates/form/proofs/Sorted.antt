@@ -1,6 +1,7 @@
 -- Rows in another order: what may be written stays so, and its form is as long.
 --   tidy-length    how long a tidy form is
 --   tidy-form      a meaning that tidies is written in its tidy form
+--   tidy-bytes     which is bytes
 -- Assumes nothing.
 use Prim.Native.Nat.{ℕ, _+_, _*_}
 use mathlib.Core.Path.{_≡_, refl, sym, _∙_}
@@ -9,6 +10,7 @@ use mathlib.Core.Logic.{_≢_}
 use mathlib.Core.List.{List, List·Permᴰ, List·Permᴰ·nil, List·Permᴰ·cons, List·Permᴰ·swap, List·Permᴰ·trans, Permᴰ·symm, Permᴰ·pairwise}
 use native.Mathlib.Omega.{arith}
 use lib.ListN.{length, length-append}
+use Rattle.numbers.specs.Numbers.{Bytes}
 use Rattle.segment.specs.declared.header.Heading.{Heading}
 use Rattle.segment.specs.Format.{Shape}
 use Rattle.segment.specs.Keys.{sortBy}
@@ -19,6 +21,7 @@ use Rattle.order.proofs.Arranged.{sort-permutes}
 use Rattle.form.specs.Form.{Writable, Contents, Form, Tidies}
 use Rattle.form.proofs.Shapes.{Shaped}
 use Rattle.form.proofs.Sizes.{section-long, form-length}
+use Rattle.form.proofs.Checksum.{form-bytes}
 
 -- as many rows, bytes of digests and extents
 record SameSize (xs ys : List Row) : Type 0 where
@@ -29,15 +32,11 @@ record SameSize (xs ys : List Row) : Type 0 where
 permuted-size : {xs ys : List Row} → List·Permᴰ xs ys → SameSize xs ys
 unfolding digestBytes extentTotal
 permuted-size List·Permᴰ·nil = record { rows = refl; digests = refl; extents = refl }
-permuted-size (List·Permᴰ·cons {a = a} {b = b} {l₁ = xs} {l₂ = ys} e p) =
+permuted-size (List·Permᴰ·cons e p) =
     let same = permuted-size p in
-    rw e (record {
-      rows = omega arith;
-      digests = simp length-append (omega arith);
-      extents = omega arith;
-    })
-permuted-size (List·Permᴰ·swap {a = a} {b = b} {l = l} e q) =
-    rw (← e, ← q) (record { rows = refl; digests = simp length-append (omega arith); extents = omega arith })
+    rw e (record { rows = omega arith; digests = simp length-append (omega arith); extents = omega arith })
+permuted-size (List·Permᴰ·swap e f) =
+    rw (← e, ← f) (record { rows = refl; digests = simp length-append (omega arith); extents = omega arith })
 permuted-size (List·Permᴰ·trans p q) =
     let first = permuted-size p in
     let second = permuted-size q in
@@ -71,3 +70,8 @@ module _ (sh : Shape) (m : Meaning) where
   pub tidy-form : (pairs : List ℕ) → Tidies sh pairs m → Form sh pairs (m .heading) (m .bloom) (sortBy rowLeq (m .records))
   unfolding tidyForm
   tidy-form pairs w = record { contents = contents-permuted sh pairs (m .heading) (m .bloom) sorted (w .contents); fits = w .fits }
+
+  pub tidy-bytes : (pairs : List ℕ) → Contents sh pairs (m .heading) (m .bloom) (m .records) → Bytes (tidyForm sh m)
+  unfolding tidyForm
+  tidy-bytes pairs c =
+      form-bytes sh pairs (m .heading) (m .bloom) (sortBy rowLeq (m .records)) (c .bloomBytes) (each-permuted (Writable sh pairs) sorted (c .each))

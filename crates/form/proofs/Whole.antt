@@ -27,7 +27,7 @@ use Rattle.form.proofs.Structures.{header-read, footer-read}
 use Rattle.form.proofs.Shapes.{Shaped}
 use Rattle.form.proofs.Sizes.{section-long, section-divides, form-length}
 use Rattle.form.proofs.Checksum.{body-bytes, crc-fits}
-use Rattle.form.proofs.Rows.{Sound, Placed, rows-read, records-meet}
+use Rattle.form.proofs.Rows.{Bounded, Placed, rows-read, records-meet}
 use Rattle.form.proofs.Counted.{each-iff, pairwise-iff}
 use Rattle.form.proofs.Shown.{none-above, largest-of-none, largest-fits, one-shown}
 use Rattle.form.proofs.Sections.{header, ending, Parts, parts}
@@ -60,18 +60,20 @@ module _ (sh : Shape) (k : Shaped sh) (pairs : List ℕ) (t : Heading) (bloom : 
 
   ending-fits : Each Fits (footerFields (ending sh t bloom rs))
   unfolding Each footerFields
-  ending-fits = omega (arith, crc-fits (formBody sh t bloom rs) (body-bytes sh pairs t bloom rs (f .contents .bloomBytes) (f .contents .each)), f .contents .heading)
+  ending-fits =
+      let bytes = body-bytes sh pairs t bloom rs (f .contents .bloomBytes) (f .contents .each) in
+      omega (arith, crc-fits (formBody sh t bloom rs) bytes, f .contents .heading)
 
   ending-same : footerOf s (length s - 24) ≡ ending sh t bloom rs
   ending-same = footer-read s (length s - 24) (ending sh t bloom rs) (at .ending-has) ending-fits
 
   -- ---- records
 
-  sound : Sound h
+  bounded : Bounded h
   unfolding formHeader
-  sound =
+  bounded =
       let long = form-length sh k t bloom rs in
-      record { domain = f .contents .heading .domain; digests = omega (arith, f .fits); extents = omega (arith, f .fits) }
+      record { domain = omega (arith, f .contents .heading); digests = omega (arith, f .fits); extents = omega (arith, f .fits) }
 
   placed : Placed sh pairs s h rs (recordsOffset h) (digestsOffset h) (extentsOffset h)
   unfolding formHeader digestSection
@@ -87,17 +89,16 @@ module _ (sh : Shape) (k : Shaped sh) (pairs : List ℕ) (t : Heading) (bloom : 
     rows = f .contents .each;
   }
 
-  counted : List Row
+  abbrev counted : List Row
   counted = map (rowNo sh s h) (countFrom 0 (length rs))
 
   rows-same : counted ≡ rs
-  unfolding counted
-  rows-same = rows-read sh k pairs s h sound rs (recordsOffset h) (digestsOffset h) (extentsOffset h) 0 placed (omega arith)
+  rows-same = rows-read sh k pairs s h bounded rs (recordsOffset h) (digestsOffset h) (extentsOffset h) 0 placed (omega arith)
 
   -- ---- the meaning
 
   pub form-means : meaningOf sh s ≡ record { heading = t; bloom = bloom; records = rs }
-  unfolding meaningOf headingOf rowsOf counted formHeader
+  unfolding meaningOf headingOf rowsOf formHeader
   form-means =
       let bytes = has-taken bloom (length bloom) (at .bloom-has) refl in
       rw (header-same, ending-same) (λ j. record { heading = t; bloom = bytes j; records = rows-same j })
@@ -113,7 +114,7 @@ module _ (sh : Shape) (k : Shaped sh) (pairs : List ℕ) (t : Heading) (bloom : 
       record {
         noBloom = λ e. rw (eq-eqb (length bloom) 0 e);
         bloom = λ n. rw (ne-eqb (length bloom) 0 n);
-        few = f .contents .few;
+        few = omega (arith, f .contents .few);
         records = refl;
         digests = refl;
         extents = refl;
@@ -125,7 +126,7 @@ module _ (sh : Shape) (k : Shaped sh) (pairs : List ℕ) (t : Heading) (bloom : 
       }
 
   visibility-meets : VisibilityMeets sh s h
-  unfolding formHeader visibilityNo counted rowNo rowOf
+  unfolding formHeader visibilityNo rowNo rowOf
   visibility-meets =
       let below = none-above (largestVisibility rs) rs (omega arith) in
       record {
@@ -137,7 +138,7 @@ module _ (sh : Shape) (k : Shaped sh) (pairs : List ℕ) (t : Heading) (bloom : 
       }
 
   keys-differ : KeysDiffer sh s h
-  unfolding formHeader keyNo counted rowNo rowOf
+  unfolding formHeader keyNo rowNo rowOf
   keys-differ i j a b e =
       let apart = pairwise-iff (rowNo sh s h) (λ (p q : Row). rowKey p ≢ rowKey q) (λ p q. ¬-prop) (length rs) .0 (rw rows-same (f .contents .apart)) in
       let not-before : ¬ (i < j) = λ l. apart i j l b e in
@@ -156,7 +157,7 @@ module _ (sh : Shape) (k : Shaped sh) (pairs : List ℕ) (t : Heading) (bloom : 
     header = record { size = refl; federation = refl; reserved = refl; flags = refl; visibility = largest-fits sh pairs rs (f .contents .each) };
     layout = layout-meets;
     checksum = checksum-meets;
-    each = records-meet sh k pairs s h sound rs (recordsOffset h) (digestsOffset h) (extentsOffset h) placed;
+    each = records-meet sh k pairs s h bounded rs (recordsOffset h) (digestsOffset h) (extentsOffset h) placed;
     visibility = visibility-meets;
     distinct = keys-differ;
   }

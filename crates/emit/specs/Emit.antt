@@ -1,0 +1,74 @@
+-- What the writers of a segment tell each other.
+--   Moderate          sizes whose sums pass no number's width
+--   headerFor         the header over so many bloom bytes and records that come to some sizes
+--   Plan              a header whose sections are those of rows, in a file of so many bytes
+--   sectionsUnder, bodyUnder   the three sections of rows, and everything before the footer, under such a header
+--   Wrote             what is answered and left of a form and an output
+-- Assumes nothing: these are definitions.
+use Prim.Native.Nat.{ℕ, _+_, _*_, _≤_}
+use mathlib.Core.Path.{_≡_}
+use mathlib.Core.List.{List, _++_}
+use lib.ListN.{length}
+use Rattle.rules.specs.declared.Verdict.the-variants.{Accepted}
+use Rattle.rules.specs.declared.Written.{Written}
+use Rattle.segment.specs.declared.header.Header.{Header}
+use Rattle.segment.specs.declared.header.Heading.{Heading}
+use Rattle.segment.specs.Format.{v3, headerSize, footerSize, extentSize, fileLimit, recordLimit, inFile, recordsOffset, digestsOffset, extentsOffset, extentCount}
+use Rattle.segment.specs.Check.{bloomPlace}
+use Rattle.segment.specs.Meaning.{Row}
+use Rattle.segment.specs.Tidy.{packed, headerFields, recordsBytes, digestBytes, digestSection, lacking, extentBytes, extentTotal, settled, outputAfter}
+use Rattle.lines.specs.declared.Sizes.{Sizes}
+
+pub record Moderate (bloom count : ℕ) (s : Sizes) : Type 0 where
+  pub bloom : bloom ≤ fileLimit
+  pub count : count ≤ recordLimit
+  pub digests : s .digests ≤ 67108864
+  pub extents : s .extents ≤ 281474976710656
+  pub visibility : s .visibility ≤ 1
+
+unfoldable pub headerFor : Heading → ℕ → ℕ → Sizes → Header
+headerFor t bloom count s =
+    let records = headerSize + bloom in
+    let digests = records + 48 * count in
+    let size = s .digests + lacking (s .digests) in
+    record {
+      magic = v3 .magic;
+      version = v3 .version;
+      shard = t .shard;
+      «header_size» = headerSize;
+      «snapshot_min» = t .«snapshot_min»;
+      «snapshot_max» = t .«snapshot_max»;
+      «record_count» = count;
+      «records_offset» = inFile records;
+      «bloom_offset» = inFile (bloomPlace bloom);
+      «bloom_size» = bloom;
+      «digests_offset» = inFile digests;
+      «digests_size» = size;
+      «extents_offset» = inFile (digests + size);
+      «extent_count» = s .extents;
+      domain = t .domain;
+      visibility = s .visibility;
+      federation = 0;
+      reserved = 0;
+      flags = 0;
+    }
+
+pub record Plan (h : Header) (rows : List Row) (used n : ℕ) : Type 0 where
+  pub few : length rows ≤ recordLimit
+  pub digests : digestsOffset h ≡ recordsOffset h + 48 * length rows
+  pub extents : extentsOffset h ≡ digestsOffset h + length (digestSection rows)
+  pub count : extentCount h ≡ extentTotal rows
+  pub used : used ≡ length (digestBytes rows)
+  pub file : n ≡ extentsOffset h + extentSize * extentCount h + footerSize
+  pub limit : n ≤ fileLimit
+
+unfoldable pub sectionsUnder : Header → List Row → List ℕ
+sectionsUnder h rows =
+    recordsBytes v3 (h .domain) rows (digestsOffset h) (extentsOffset h) ++ (digestSection rows ++ extentBytes rows)
+
+unfoldable pub bodyUnder : Header → List ℕ → List Row → List ℕ
+bodyUnder h bloom rows = packed (headerFields h) ++ (bloom ++ sectionsUnder h rows)
+
+pub record Wrote (form out after : List ℕ) (w : Written) : Type 0 where
+  pub answer : w ≡ settled Accepted form (length out)
+  pub output : after ≡ outputAfter w form out

@@ -1,0 +1,133 @@
+// A segment written from items in the order of their numbers: header, bloom bytes, records, digests, extents and footer. Nothing is
+// written before it is known that the result keeps to the limit and fits the output.
+ghost use mathlib.Core.Path.{_≡_};
+ghost use mathlib.Core.List.{_++_};
+ghost use Prim.Native.Nat.{_+_, _≤_};
+ghost use lib.ListN.{length};
+ghost use Rattle.numbers.specs.Numbers.{put};
+ghost use Rattle.segment.specs.Format.{v3, recordsOffset};
+ghost use Rattle.segment.specs.Check.{bloomPlace};
+ghost use Rattle.segment.specs.Tidy.{lacking, formHeader, formOf};
+ghost use Rattle.lines.specs.Lines.{itemRows, Lines};
+ghost use Rattle.emit.specs.Emit.{Moderate, headerFor, Plan, sectionsUnder, bodyUnder, Wrote};
+use lines::Sizes;
+use order::Kind;
+use rules::Refusal;
+use rules::Written;
+use segment::FileOffset;
+use segment::extent::Extent;
+use segment::footer::Footer;
+use segment::header::Header;
+use segment::header::Heading;
+use segment::record::Record;
+
+const MAGIC: u64 = 0x3330_5844_494C_5341;
+
+const VERSION: u16 = 3;
+
+const HEADER: u64 = Header::SIZE as u64;
+
+const RECORD: u64 = Record::SIZE as u64;
+
+const EXTENT: u64 = Extent::SIZE as u64;
+
+const FOOTER: u64 = Footer::SIZE as u64;
+
+// A segment's length at the most: one GiB.
+const LIMIT: u64 = 1073741824;
+
+// A number of bytes with the zeros that it lacks to a multiple of 8.
+fn padded(n: u64) -> u64
+    requires { ⌜ n ≤ 1152921504606846976 ⌝ }
+    ensures { λ r. ⌜ r ≡ n + lacking n ⌝ }
+{
+    n + (8 - n % 8) % 8
+}
+
+// Where the bloom bytes begin: nowhere, if there are none.
+fn bloom_place(size: u64) -> u64
+    ensures { λ r. ⌜ r ≡ bloomPlace size ⌝ }
+{
+    if size == 0 {
+        return 0;
+    }
+    HEADER
+}
+
+// The header over so many bloom bytes and records that come to some sizes.
+fn header_for(t: Heading, bloom: u64, count: u64, s: Sizes) -> Header
+    requires { ⌜ Moderate bloom count s ⌝ }
+    ensures { λ r. ⌜ r ≡ headerFor t bloom count s ⌝ }
+{
+    let records = HEADER + bloom;
+    let digests = records + RECORD * count;
+    let size = padded(s.digests);
+    let place = bloom_place(bloom);
+    Header {
+        magic: MAGIC,
+        version: VERSION,
+        shard: t.shard,
+        header_size: 112,
+        snapshot_min: t.snapshot_min,
+        snapshot_max: t.snapshot_max,
+        record_count: count,
+        records_offset: FileOffset(records),
+        bloom_offset: FileOffset(place),
+        bloom_size: bloom,
+        digests_offset: FileOffset(digests),
+        digests_size: size,
+        extents_offset: FileOffset(digests + size),
+        extent_count: s.extents,
+        domain: t.domain,
+        visibility: s.visibility as u8,
+        federation: 0,
+        reserved: 0,
+        flags: 0,
+    }
+}
+
+// Records, digests and extents, each lent its own stretch of the output.
+fn put_sections(
+    h: Header,
+    used: usize,
+    kind: Kind,
+    bytes: &[u8],
+    list: &[u64],
+    extents: &[u64],
+    numbers: &[u16],
+    out: &mut [u8],
+)
+    requires { ⌜ Lines kind (now bytes) (now list) (now extents) (now numbers) ⌝ }
+    requires { ⌜ Plan h (itemRows kind (now bytes) (now list) (now extents) (now numbers)) used (length (now out)) ⌝ }
+    ensures { λ _. ⌜ now (out .exit) ≡ put (now (out .entry)) (recordsOffset h) (sectionsUnder h (itemRows kind (now (bytes .entry)) (now (list .entry)) (now (extents .entry)) (now (numbers .entry)))) ⌝ }
+{
+    let records_at = h.records_offset.0 as usize;
+    let digests_at = h.digests_offset.0 as usize;
+    let extents_at = h.extents_offset.0 as usize;
+    let end = out.len() - Footer::SIZE;
+    sections::put_records(
+        h,
+        kind,
+        bytes,
+        list,
+        extents,
+        numbers,
+        &mut out[records_at..digests_at],
+    );
+    sections::put_digest_section(
+        kind,
+        bytes,
+        list,
+        numbers,
+        used,
+        &mut out[digests_at..extents_at],
+    );
+    sections::put_extents(
+        kind,
+        bytes,
+        list,
+        extents,
+        numbers,
+        &mut out[extents_at..end],
+    );
+}
