@@ -20,8 +20,8 @@ use Rattle.segment.specs.Tidy.{packed, headerFields, recordsBytes, digestBytes,
 use Rattle.lines.specs.declared.Sizes.{Sizes}
 
 pub record Moderate (bloom count : ℕ) (s : Sizes) : Type 0 where
-  pub bloom : bloom ≤ fileLimit
-  pub count : count ≤ recordLimit
+  pub short : bloom ≤ fileLimit
+  pub few : count ≤ recordLimit
   pub digests : s .digests ≤ 67108864
   pub extents : s .extents ≤ 281474976710656
   pub visibility : s .visibility ≤ 1
@@ -58,7 +58,7 @@ pub record Plan (h : Header) (rows : List Row) (used n : ℕ) : Type 0 where
   pub digests : digestsOffset h ≡ recordsOffset h + 48 * length rows
   pub extents : extentsOffset h ≡ digestsOffset h + length (digestSection rows)
   pub count : extentCount h ≡ extentTotal rows
-  pub used : used ≡ length (digestBytes rows)
+  pub filled : used ≡ length (digestBytes rows)
   pub file : n ≡ extentsOffset h + extentSize * extentCount h + footerSize
   pub limit : n ≤ fileLimit
 

@@ -131,3 +131,98 @@ fn put_sections(
         &mut out[extents_at..end],
     );
 }
+
+// Everything before the footer.
+fn put_body(
+    h: Header,
+    bloom: &[u8],
+    used: usize,
+    kind: Kind,
+    bytes: &[u8],
+    list: &[u64],
+    extents: &[u64],
+    numbers: &[u16],
+    out: &mut [u8],
+)
+    requires { ⌜ Lines kind (now bytes) (now list) (now extents) (now numbers) ⌝ }
+    requires { ⌜ Plan h (itemRows kind (now bytes) (now list) (now extents) (now numbers)) used (length (now out)) ⌝ }
+    requires { ⌜ recordsOffset h ≡ 112 + length (now bloom) ⌝ }
+    ensures { λ _. ⌜ now (out .exit) ≡ put (now (out .entry)) 0 (bodyUnder h (now (bloom .entry)) (itemRows kind (now (bytes .entry)) (now (list .entry)) (now (extents .entry)) (now (numbers .entry)))) ⌝ }
+{
+    fields::put_header(h, out);
+    sections::copy_bytes(bloom, Header::SIZE, out);
+    put_sections(h, used, kind, bytes, list, extents, numbers, out);
+}
+
+// The whole form, into an output that is as long as it.
+fn put_form(
+    t: Heading,
+    h: Header,
+    bloom: &[u8],
+    used: usize,
+    kind: Kind,
+    bytes: &[u8],
+    list: &[u64],
+    extents: &[u64],
+    numbers: &[u16],
+    out: &mut [u8],
+)
+    requires { ⌜ Lines kind (now bytes) (now list) (now extents) (now numbers) ⌝ }
+    requires { ⌜ Plan h (itemRows kind (now bytes) (now list) (now extents) (now numbers)) used (length (now out)) ⌝ }
+    requires { ⌜ h ≡ formHeader v3 t (length (now bloom)) (itemRows kind (now bytes) (now list) (now extents) (now numbers)) ⌝ }
+    ensures { λ _. ⌜ now (out .exit) ≡ formOf v3 t (now (bloom .entry)) (itemRows kind (now (bytes .entry)) (now (list .entry)) (now (extents .entry)) (now (numbers .entry))) ⌝ }
+{
+    put_body(h, bloom, used, kind, bytes, list, extents, numbers, out);
+    let body = out.len() - Footer::SIZE;
+    let checksum = crc64::crc64_plain(&out[..body]);
+    let f = Footer {
+        checksum,
+        seal_snapshot: t.seal_snapshot,
+        seal_time: t.seal_time,
+    };
+    fields::put_footer(f, body, out);
+}
+
+// The form of the items in the order of their numbers, if it keeps to the limit and fits; else the output is left alone.
+pub fn emit(
+    t: Heading,
+    bloom: &[u8],
+    kind: Kind,
+    bytes: &[u8],
+    list: &[u64],
+    extents: &[u64],
+    numbers: &[u16],
+    out: &mut [u8],
+) -> Written
+    requires { ⌜ Lines kind (now bytes) (now list) (now extents) (now numbers) ⌝ }
+    requires { ⌜ length (now numbers) ≤ 65536 ⌝ }
+    ensures { λ r. ⌜ Wrote (formOf v3 t (now (bloom .entry)) (itemRows kind (now (bytes .entry)) (now (list .entry)) (now (extents .entry)) (now (numbers .entry)))) (now (out .entry)) (now (out .exit)) r ⌝ }
+{
+    let size = bloom.len() as u64;
+    if LIMIT < size {
+        return Written::Refused(Refusal::Large);
+    }
+    let s = lines::measure(kind, bytes, list, numbers);
+    let h = header_for(t, size, numbers.len() as u64, s);
+    let n = h.extents_offset.0 + EXTENT * h.extent_count + FOOTER;
+    if LIMIT < n {
+        return Written::Refused(Refusal::Large);
+    }
+    if (out.len() as u64) < n {
+        return Written::Refused(Refusal::Room);
+    }
+    let end = n as usize;
+    put_form(
+        t,
+        h,
+        bloom,
+        s.digests as usize,
+        kind,
+        bytes,
+        list,
+        extents,
+        numbers,
+        &mut out[..end],
+    );
+    Written::Done(n)
+}
