@@ -44,11 +44,14 @@ emit-spec =
     no-room _ _ (omega (arith, n, c .before .if2 .left)) (omega (arith, n, c .if3 .taken)))
     (λ c. omega arith)
     (λ c. sym (length-take-le _ _ (omega arith)))
-    (λ c κs. let made = c .before .before .before .before .before in let measured = made .before in let start = measured .before .before .before .before .before .before .before .before in let a = start .args in
-    (start .pre .0,
-    (plan (a .kind) (a .bytes .now) (a .list .now) (a .extents .now) (a .t) (a .bloom .now) (a .numbers .now) (start .pre .0) (start .pre .1) _ (measured .measure .ensures) _ (made .header-for .ensures) _ (length-take-le _ _ (omega (arith, c .before .if3 .left)))
-    (cut (length-take-le _ _ (omega (arith, c .before .if3 .left))) (c .before .before .if2 .left)),
-    form-header (a .kind) (a .bytes .now) (a .list .now) (a .extents .now) (a .t) (a .bloom .now) (a .numbers .now) (start .pre .0) (start .pre .1) _ (measured .measure .ensures) _ (made .header-for .ensures))))
+    (λ c κs. let made = c .before .before .before .before .before in let measured = made .before in let start = measured .before .before .before .before .before .before .before .before in let a = start .args in (
+      start .pre .0,
+      (
+        plan (a .kind) (a .bytes .now) (a .list .now) (a .extents .now) (a .t) (a .bloom .now) (a .numbers .now) (start .pre .0) (start .pre .1) _ (measured .measure .ensures) _ (made .header-for .ensures) _ (length-take-le _ _ (omega (arith, c .before .if3 .left)))
+            (cut (length-take-le _ _ (omega (arith, c .before .if3 .left))) (c .before .before .if2 .left)),
+        form-header (a .kind) (a .bytes .now) (a .list .now) (a .extents .now) (a .t) (a .bloom .now) (a .numbers .now) (start .pre .0) (start .pre .1) _ (measured .measure .ensures) _ (made .header-for .ensures),
+      ),
+    ))
     (λ c. search needs)
     (λ c. let put = c .before .before in let made = put .before .before .before .before .before .before in let measured = made .before in let start = measured .before .before .before .before .before .before .before .before in let a = start .args in
     let n = form-long (a .kind) (a .bytes .now) (a .list .now) (a .extents .now) (a .t) (a .bloom .now) (a .numbers .now) (start .pre .0) (start .pre .1) _ (measured .measure .ensures) _ (made .header-for .ensures) in

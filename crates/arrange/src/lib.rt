@@ -1,0 +1,124 @@
+// The tidy form of items: their numbers sorted by key, and the items written in that order. The numbers stand in arrays on the stack,
+// small ones for a small segment, so that it does not pay for the largest.
+ghost use mathlib.Core.Path.{_≡_};
+ghost use Prim.Native.Nat.{_≤_};
+ghost use lib.ListN.{length};
+ghost use Rattle.segment.specs.Meaning.{countFrom};
+ghost use Rattle.emit.specs.Emit.{Wrote};
+ghost use Rattle.arrange.specs.Arrange.{AllLines, itemsForm};
+use order::Kind;
+use rules::Written;
+use segment::header::Heading;
+
+// 0, 1, 2 and so on.
+fn count_up(numbers: &mut [u16])
+    requires { ⌜ length (now numbers) ≤ 65536 ⌝ }
+    ensures { λ _. ⌜ now (numbers .exit) ≡ countFrom 0 (length (now (numbers .entry))) ⌝ }
+{
+    let mut i = 0;
+    while i < numbers.len() {
+        numbers[i] = i as u16;
+        i += 1;
+    }
+}
+
+// As many items as there are numbers, written in tidy order.
+fn arrange(
+    t: Heading,
+    bloom: &[u8],
+    kind: Kind,
+    bytes: &[u8],
+    list: &[u64],
+    extents: &[u64],
+    numbers: &mut [u16],
+    spare: &mut [u16],
+    out: &mut [u8],
+) -> Written
+    requires { ⌜ AllLines kind (now bytes) (now list) (now extents) (length (now numbers)) ⌝ }
+    requires { ⌜ length (now numbers) ≤ length (now spare) ⌝ }
+    requires { ⌜ length (now numbers) ≤ 65536 ⌝ }
+    ensures { λ r. ⌜ Wrote (itemsForm t (now (bloom .entry)) kind (now (bytes .entry)) (now (list .entry)) (now (extents .entry)) (length (now (numbers .entry)))) (now (out .entry)) (now (out .exit)) r ⌝ }
+{
+    count_up(numbers);
+    order::sort(kind, bytes, list, numbers, spare);
+    emit::emit(t, bloom, kind, bytes, list, extents, numbers, out)
+}
+
+fn arrange_few(
+    t: Heading,
+    bloom: &[u8],
+    kind: Kind,
+    bytes: &[u8],
+    list: &[u64],
+    extents: &[u64],
+    n: usize,
+    out: &mut [u8],
+) -> Written
+    requires { ⌜ AllLines kind (now bytes) (now list) (now extents) n ⌝ }
+    requires { ⌜ n ≤ 256 ⌝ }
+    ensures { λ r. ⌜ Wrote (itemsForm t (now (bloom .entry)) kind (now (bytes .entry)) (now (list .entry)) (now (extents .entry)) n) (now (out .entry)) (now (out .exit)) r ⌝ }
+{
+    let mut numbers = [0u16; 256];
+    let mut spare = [0u16; 256];
+    arrange(
+        t,
+        bloom,
+        kind,
+        bytes,
+        list,
+        extents,
+        &mut numbers[..n],
+        &mut spare[..],
+        out,
+    )
+}
+
+fn arrange_many(
+    t: Heading,
+    bloom: &[u8],
+    kind: Kind,
+    bytes: &[u8],
+    list: &[u64],
+    extents: &[u64],
+    n: usize,
+    out: &mut [u8],
+) -> Written
+    requires { ⌜ AllLines kind (now bytes) (now list) (now extents) n ⌝ }
+    requires { ⌜ n ≤ 65536 ⌝ }
+    ensures { λ r. ⌜ Wrote (itemsForm t (now (bloom .entry)) kind (now (bytes .entry)) (now (list .entry)) (now (extents .entry)) n) (now (out .entry)) (now (out .exit)) r ⌝ }
+{
+    let mut numbers = [0u16; 65536];
+    let mut spare = [0u16; 65536];
+    arrange(
+        t,
+        bloom,
+        kind,
+        bytes,
+        list,
+        extents,
+        &mut numbers[..n],
+        &mut spare[..],
+        out,
+    )
+}
+
+// The tidy form of n items, if it keeps to the limit and fits the output; else the output is left alone.
+pub fn put_tidy(
+    t: Heading,
+    bloom: &[u8],
+    kind: Kind,
+    bytes: &[u8],
+    list: &[u64],
+    extents: &[u64],
+    n: usize,
+    out: &mut [u8],
+) -> Written
+    requires { ⌜ AllLines kind (now bytes) (now list) (now extents) n ⌝ }
+    requires { ⌜ n ≤ 65536 ⌝ }
+    ensures { λ r. ⌜ Wrote (itemsForm t (now (bloom .entry)) kind (now (bytes .entry)) (now (list .entry)) (now (extents .entry)) n) (now (out .entry)) (now (out .exit)) r ⌝ }
+{
+    if n <= 256 {
+        return arrange_few(t, bloom, kind, bytes, list, extents, n, out);
+    }
+    arrange_many(t, bloom, kind, bytes, list, extents, n, out)
+}
