@@ -6,13 +6,11 @@ use mathlib.Core.Path.{_≡_}
 use mathlib.Core.Bool.{true}
 use mathlib.Core.List.{List}
 use lib.ListN.{length}
-use Rattle.rules.specs.declared.Verdict.the-variants.{Accepted}
-use Rattle.rules.specs.Rules.{firstOver}
 use Rattle.segment.specs.declared.entry.Entry.{Entry}
 use Rattle.segment.specs.declared.extent.Extent.{Extent}
 use Rattle.segment.specs.Format.{Shape, recordLimit}
 use Rattle.segment.specs.Table.{allows}
-use Rattle.segment.specs.Keys.{freshKey}
+use Rattle.segment.specs.Keys.{NoKeyTwice}
 use Rattle.segment.specs.Check.{sumLengths}
 use Rattle.segment.specs.Write.{entryCount, listedExtents, entryNo, entryExtents, entryKey, allListedFit}
 
@@ -54,4 +52,4 @@ pub record RequestAsked (sh : Shape) (pairs : List ℕ) (bloom : ℕ) (entries d
   pub few : entryCount entries ≤ recordLimit
   pub whole : bloom % 8 ≡ 0
   pub each : (k : ℕ) → k < entryCount entries → Asked sh pairs digests extents (entryNo entries k)
-  pub fresh : firstOver (entryCount entries) (freshKey (entryKey entries digests)) ≡ Accepted
+  pub fresh : NoKeyTwice (entryKey entries digests) (entryCount entries)

@@ -1,5 +1,6 @@
 pub mod Arms
 pub mod Equal
+pub mod Fresh
 pub mod Compare
 pub mod Lex
 pub mod Sorting

@@ -1,14 +1,29 @@
 -- The laws of rules in order: the first refusal wins; a table accepts exactly when every row holds; over a run of records
 -- the refusal is the lowest's.
+--   tests       `simp tests` decides a table's tests by what the code's tests say
+--   rows        `simp rows` turns `table ≡ Accepted` into what the table's rows say
 -- Assumes nothing.
-use Prim.Native.Nat.{ℕ, zero, suc, _+_, _<_}
+use Prim.Native.Nat.{ℕ, zero, suc, _+_, _≤_, _<_}
 use mathlib.Core.Path.{_≡_, refl, sym, _∙_}
-use mathlib.Core.Bool.{Bool, true, false, not, _&&_, _||_}
+use mathlib.Core.Bool.{Bool, true, false, not, _&&_, _||_, false≢true}
 use mathlib.Core.Logic.{_↔_, _⊎_, inl, inr, ⊎-elim}
 use native.Mathlib.Nat.{not-suc-le-zero, eq-or-lt-of-le, le-of-suc-le-suc}
 use native.Mathlib.Numerals.{add-one}
 use native.Mathlib.Omega.{arith}
-use borrow.Author.Tests.{lt-ltb, le-ltb, le-leb, lt-leb, eq-eqb, ne-eqb, not-true as flag-false, not-false as flag-true}
+use borrow.Author.Tests.{
+  lt-ltb,
+  ltb-true,
+  le-ltb,
+  le-leb,
+  leb-true,
+  lt-leb,
+  eq-eqb,
+  eqb-true,
+  ne-eqb,
+  not-true as flag-false,
+  not-false as flag-true,
+}
+use lib.Dec.{leb, ltb, eqb}
 use Rattle.rules.specs.declared.Refusal.{Refusal}
 use Rattle.rules.specs.declared.Verdict.{Verdict}
 use Rattle.rules.specs.declared.Verdict.the-variants.{Accepted, Refused}
@@ -24,18 +39,44 @@ pub and-iff : (a b : Bool) → (a && b) ≡ true ↔ (a ≡ true) × (b ≡ true
 and-iff true b = (λ e. (refl, e), λ e. e .1)
 and-iff false b = (λ e. (e, cc), λ e. e .0)
 
--- what the tests of a table come to, from what the code's tests say
+-- of one or the other, the second where the first does not hold
+pub or-iff : (a b : Bool) → (a || b) ≡ true ↔ (¬ (a ≡ true) → b ≡ true)
+or-iff true b = (λ e n. absurd (n refl), λ f. refl)
+or-iff false b = (λ e n. e, λ f. f false≢true)
+
+pub or-either : (a b : Bool) → (a || b) ≡ true → (a ≡ true) ⊎ (b ≡ true)
+or-either true b e = inl e
+or-either false b e = inr e
+
 pub ruleset tests = (lt-ltb, le-ltb, le-leb, lt-leb, eq-eqb, ne-eqb)
 
+pub leb-iff : (a b : ℕ) → leb a b ≡ true ↔ a ≤ b
+leb-iff a b = (leb-true a b, le-leb a b)
+
+pub ltb-iff : (a b : ℕ) → ltb a b ≡ true ↔ a < b
+ltb-iff a b = (ltb-true a b, lt-ltb a b)
+
+pub eqb-iff : (a b : ℕ) → eqb a b ≡ true ↔ a ≡ b
+eqb-iff a b = (eqb-true a b, eq-eqb a b)
+
 -- ---- a row, and two verdicts in order
+
+pub never-both : {v : Verdict} {q : Refusal} → v ≡ Accepted → v ≡ Refused q → ⊥
+never-both e f = let z : _≡_ {A = ℕ} 0 1 = cc in omega arith
 
 pub must-accepted : (b : Bool) (r : Refusal) → must b r ≡ Accepted ↔ b ≡ true
 must-accepted true r = (λ e. refl, λ e. refl)
 must-accepted false r = (λ e. cc, λ e. cc)
 
+pub must-not : (b : Bool) (r : Refusal) → must (not b) r ≡ Accepted ↔ ¬ (b ≡ true)
+must-not true r = (λ e. absurd (never-both e refl), λ n. absurd (n refl))
+must-not false r = (λ e. false≢true, λ n. refl)
+
 pub then-accepted : (a b : Verdict) → (a then b) ≡ Accepted ↔ (a ≡ Accepted) × (b ≡ Accepted)
 then-accepted Accepted b = (λ e. (refl, e), λ e. e .1)
 then-accepted (Refused r) b = (λ e. (e, cc), λ e. e .0)
+
+pub ruleset rows = (then-accepted, must-accepted, leb-iff, ltb-iff, eqb-iff)
 
 -- the first refusal wins: the second verdict speaks only where the first accepts
 pub then-refused : (a b : Verdict) (r : Refusal) → (a then b) ≡ Refused r ↔ (a ≡ Refused r) ⊎ ((a ≡ Accepted) × (b ≡ Refused r))
@@ -91,10 +132,7 @@ pub record Lowest (n : ℕ) (f : ℕ → Verdict) (r : Refusal) : Type 0 where
 
 first-lowest : (n : ℕ) (f : ℕ → Verdict) (r : Refusal) → firstOver n f ≡ Refused r → Lowest n f r
 unfolding firstOver
-first-lowest zero f r e = absurd (never e)
-  where
-    never : Accepted ≡ Refused r → ⊥
-    never q = let z : _≡_ {A = ℕ} 0 1 = cc in omega arith
+first-lowest zero f r e = absurd (never-both refl e)
 first-lowest (suc n) f r e =
     ⊎-elim
     (λ (q : firstOver n f ≡ Refused r). let l = first-lowest n f r q in record { at = l .at; within = omega arith; here = l .here; before = l .before })
@@ -104,6 +142,14 @@ first-lowest (suc n) f r e =
 -- the refusal over a run is the lowest's
 pub first-is-lowest : (n : ℕ) (f : ℕ → Verdict) (r : Refusal) → firstOver n f ≡ Refused r ↔ Lowest n f r
 first-is-lowest n f r = (first-lowest n f r, λ l. first-refused n (l .at) f r (l .within) (all-first (l .at) f (l .before)) (l .here))
+
+-- so a run is accepted at each place, or there is a lowest at which it is not
+pub by-run : {C : Type 0} (n : ℕ) (f : ℕ → Verdict) → (((k : ℕ) → k < n → f k ≡ Accepted) → C) → ((r : Refusal) → Lowest n f r → C) → C
+by-run {C} n f all some = go (firstOver n f) refl
+  where
+    go : (v : Verdict) → firstOver n f ≡ v → C
+    go Accepted e = all (first-all n f e)
+    go (Refused r) e = some r (first-lowest n f r e)
 
 -- ---- a test below a bound
 
@@ -127,6 +173,15 @@ some-found (suc n) k p h q =
     (λ (e : k ≡ n). or-right (someBelow n p) (rw e at q))
     (λ (l : k < n). rw (some-found n k p l q))
     (eq-or-lt-of-le (le-of-suc-le-suc h))
+
+pub some-at : (n : ℕ) (p : ℕ → Bool) → someBelow n p ≡ true → (at : ℕ) × (at < n) × (p at ≡ true)
+unfolding someBelow
+some-at zero p e = absurd (false≢true e)
+some-at (suc n) p e =
+    ⊎-elim
+    (λ (q : someBelow n p ≡ true). let a = some-at n p q in (a .0, omega arith, a .2))
+    (λ (q : p n ≡ true). (n, omega arith, q))
+    (or-either (someBelow n p) (p n) e)
 
 pub some-none : (n : ℕ) (p : ℕ → Bool) → ((k : ℕ) → k < n → p k ≡ false) → someBelow n p ≡ false
 unfolding someBelow

@@ -3,16 +3,17 @@
 -- Assumes nothing.
 use Prim.Native.Nat.{ℕ, suc, _+_, _-_, _≤_, _<_}
 use mathlib.Core.Path.{_≡_, refl, sym, ap, _∙_}
-use mathlib.Core.Bool.{Bool, true, false, not, _&&_}
+use mathlib.Core.Bool.{Bool, true, false, not, _&&_, false≢true}
+use mathlib.Core.Logic.{⊎-elim}
 use mathlib.Core.List.{List, [], _∷_, _++_}
 use native.Mathlib.Nat.{le-refl}
 use native.Mathlib.Numerals.{add-one}
 use native.Mathlib.Omega.{arith}
 use borrow.Author.Tests.{leb-true, not-true as flag-false}
-use lib.Dec.{leb}
+use lib.Dec.{leb, eqb}
 use lib.ListN.{length, getD, take, drop, set, replicate, length-append, length-drop, drop-of-length-le}
 use lib.Seq.{drop-cons, take-all, take-suc, set-at, take-at, length-take-le, append-snoc}
-use Rattle.rules.proofs.Order.{tests, by-test, and-iff}
+use Rattle.rules.proofs.Order.{tests, by-test, and-iff, or-either, leb-iff, ltb-iff, eqb-iff}
 use Rattle.segment.specs.declared.table.Tabled.{Tabled}
 use Rattle.segment.specs.Table.{stands, goodPairs, goodTable, allows, tabledOf}
 
@@ -142,6 +143,22 @@ copied-more n p i h l =
     let e : n - i ≡ suc (n - (i + 1)) = omega arith in
     rw (e, set-at (take i p) 0 (replicate (n - (i + 1)) 0) (getD p i 0) i (length-take-le i p (omega arith)), add-one, take-suc p i 0)
     (sym (append-snoc (take i p) (getD p i 0) (replicate (n - suc i) 0)))
+
+-- a hash id and a length that a good table allows fit their fields
+pairs-small : (pairs : List ℕ) (hash len : ℕ) → goodPairs pairs ≡ true → allows pairs hash len ≡ true → (hash < 4294967296) × (len ≤ 1024)
+unfolding goodPairs allows
+pairs-small [] hash len g a = absurd (false≢true a)
+pairs-small (x ∷ []) hash len g a = absurd (false≢true a)
+pairs-small (x ∷ n ∷ pairs) hash len g a =
+    let good = simp (and-iff, ltb-iff, leb-iff) at g in
+    ⊎-elim
+    (λ (here : (eqb x hash && eqb n len) ≡ true). let same = simp (and-iff, eqb-iff) at here in (omega arith, omega arith))
+    (λ (later : allows pairs hash len ≡ true). pairs-small pairs hash len (good .1 .1) later)
+    (or-either (eqb x hash && eqb n len) (allows pairs hash len) a)
+
+pub allowed-small : (pairs : List ℕ) (hash len : ℕ) → goodTable pairs ≡ true → allows pairs hash len ≡ true → (hash < 4294967296) × (len ≤ 1024)
+unfolding goodTable
+allowed-small pairs hash len g a = pairs-small pairs hash len ((simp and-iff at g) .1 .1) a
 
 -- ---- the table by value
 

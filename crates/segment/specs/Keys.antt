@@ -4,9 +4,12 @@
 --   eqList        two lists are equal
 --   lexLeq        the first list comes no later than the second, number by number
 --   freshKey      the rule of place i among keys: it stands nowhere earlier
+--   EarlierKey, FirstTwice   a key stands earlier; the lowest place at which one does
+--   NoKeyTwice    no two of n places have the same key
 --   sortBy        a list sorted by a test, by insertion
 -- Assumes nothing: these are definitions.
-use Prim.Native.Nat.{ℕ}
+use Prim.Native.Nat.{ℕ, _<_}
+use mathlib.Core.Path.{_≡_}
 use mathlib.Core.Bool.{Bool, true, false, cond, _&&_, _||_, not}
 use mathlib.Core.List.{List, [], _∷_}
 use lib.Dec.{ltb, eqb}
@@ -33,6 +36,21 @@ sameKey key i j = eqList (key i) (key j)
 
 unfoldable pub freshKey : (ℕ → List ℕ) → ℕ → Verdict
 freshKey key i = must (not (someBelow i (sameKey key i))) (Duplicate i)
+
+-- the key of place k stands at an earlier one
+pub record EarlierKey (key : ℕ → List ℕ) (k : ℕ) : Type 0 where
+  pub at : ℕ
+  pub before : at < k
+  pub same : key k ≡ key at
+
+-- and k is the lowest of n places of which this is so
+pub record FirstTwice (key : ℕ → List ℕ) (n k : ℕ) : Type 0 where
+  pub within : k < n
+  pub earlier : EarlierKey key k
+  pub lowest : (j : ℕ) → j < k → ¬ EarlierKey key j
+
+abbrev pub NoKeyTwice : (ℕ → List ℕ) → ℕ → Type 0
+NoKeyTwice key n = (i j : ℕ) → i < n → j < n → key i ≡ key j → i ≡ j
 
 -- x before the first element that it comes no later than
 unfoldable pub insert : {A : Type 0} → (A → A → Bool) → A → List A → List A

@@ -33,6 +33,7 @@ use Rattle.segment.specs.Format.{
   extentsIn,
 }
 use Rattle.segment.specs.Table.{allows}
+use Rattle.segment.specs.Keys.{NoKeyTwice}
 use Rattle.segment.specs.Check.{sumLengths, visibilityNo, keyNo}
 
 -- 1
@@ -127,14 +128,9 @@ pub record VisibilityMeets (sh : Shape) (s : List ℕ) (h : Header) : Type 0 whe
   pub none : recordCount h ≡ 0 → h .visibility ≡ 0
   pub shown : 0 < recordCount h → Shown sh s h (h .visibility)
 
--- 12: the key of record k stands in an earlier one
-pub record StandsEarlier (sh : Shape) (s : List ℕ) (h : Header) (k : ℕ) : Type 0 where
-  pub at : ℕ
-  pub before : at < k
-  pub same : keyNo sh s h k ≡ keyNo sh s h at
-
+-- 12
 abbrev pub KeysDiffer : Shape → List ℕ → Header → Type 0
-KeysDiffer sh s h = (i j : ℕ) → i < recordCount h → j < recordCount h → keyNo sh s h i ≡ keyNo sh s h j → i ≡ j
+KeysDiffer sh s h = NoKeyTwice (keyNo sh s h) (recordCount h)
 
 -- a segment with the header h
 pub record SegmentMeets (sh : Shape) (pairs s : List ℕ) (h : Header) : Type 0 where
