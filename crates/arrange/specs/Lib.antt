@@ -1,1 +1,2 @@
 pub mod Arrange
+pub mod Left

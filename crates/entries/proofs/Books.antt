@@ -72,17 +72,17 @@ places-book e k =
     by-cases (ℕ-discrete (e .gone) 1)
     (λ (g : e .gone ≡ 1).
     rw (eq-eqb (e .gone) 1 g) (
-      simp rows (
-        λ a. record { goneFirst = λ _. a .0; goneCount = λ _. a .1; live = λ n. absurd (n g); count = omega arith },
-        λ m. (m .goneFirst g, m .goneCount g),
-      )
+    simp rows (
+      λ a. record { goneFirst = λ _. a .0; goneCount = λ _. a .1; live = λ n. absurd (n g); count = omega arith },
+      λ m. (m .goneFirst g, m .goneCount g),
+    )
     ))
     (λ (g : ¬ (e .gone ≡ 1)).
     rw (ne-eqb (e .gone) 1 g) (
-      simp rows (
-        λ a. record { goneFirst = λ y. absurd (g y); goneCount = λ y. absurd (g y); live = λ _. a .0; count = a .1 },
-        λ m. (m .live g, m .count),
-      )
+    simp rows (
+      λ a. record { goneFirst = λ y. absurd (g y); goneCount = λ y. absurd (g y); live = λ _. a .0; count = a .1 },
+      λ m. (m .live g, m .count),
+    )
     ))
 
 -- ---- 10
