@@ -1,0 +1,5 @@
+pub mod Rows
+pub mod TablesHeader
+pub mod TablesRecord
+pub mod TablesWhole
+pub mod Book

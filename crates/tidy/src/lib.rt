@@ -1,0 +1,77 @@
+// Tidy: the tidy form of a segment, or the first rule of document 01 that the segment breaks.
+ghost use mathlib.Core.Path.{_≡_};
+ghost use mathlib.Core.Bool.{true};
+ghost use Prim.Native.Nat.{_≤_};
+ghost use lib.ListN.{length};
+ghost use Rattle.segment.specs.Format.{v3};
+ghost use Rattle.segment.specs.Table.{goodTable};
+ghost use Rattle.segment.specs.Check.{segmentVerdict};
+ghost use Rattle.segment.specs.Meaning.{headingOf, meaningOf};
+ghost use Rattle.segment.specs.Tidy.{tidyForm, outcome, tidyOf};
+ghost use Rattle.arrange.specs.Left.{Left};
+use order::Kind;
+use rules::Refusal;
+use rules::Verdict;
+use rules::Written;
+use segment::footer::Footer;
+use segment::header::Header;
+use segment::header::Heading;
+use segment::table::Table;
+
+// The numbers of a segment that its tidy form keeps.
+fn heading_of(seg: &[u8], h: Header) -> Heading
+    requires { ⌜ 136 ≤ length (now seg) ⌝ }
+    ensures { λ r. ⌜ r ≡ headingOf (now (seg .entry)) h ⌝ }
+{
+    let f = Footer::at(seg, seg.len() - Footer::SIZE);
+    Heading {
+        shard: h.shard,
+        snapshot_min: h.snapshot_min,
+        snapshot_max: h.snapshot_max,
+        domain: h.domain,
+        seal_snapshot: f.seal_snapshot,
+        seal_time: f.seal_time,
+    }
+}
+
+// Everything but the table. Records are read from the segment alone, so that the two lists of entries and extents are not read.
+fn tidy_under(pairs: &[u64], seg: &[u8], out: &mut [u8]) -> Written
+    requires { ⌜ goodTable (now pairs) ≡ true ⌝ }
+    ensures { λ r. ⌜ Left (segmentVerdict v3 (now (pairs .entry)) (now (seg .entry))) (tidyForm v3 (meaningOf v3 (now (seg .entry)))) (now (out .entry)) (now (out .exit)) r ⌝ }
+{
+    match accept::check_segment(pairs, seg) {
+        Verdict::Refused(x) => {
+            return Written::Refused(x);
+        }
+        Verdict::Accepted => {}
+    }
+    let h = Header::of(seg);
+    let t = heading_of(seg, h);
+    let end = Header::SIZE + h.bloom_size as usize;
+    let records = Kind::Records(h.records_offset.0 as usize);
+    let n = h.record_count as usize;
+    arrange::put_tidy(
+        t,
+        &seg[Header::SIZE..end],
+        records,
+        seg,
+        pairs,
+        pairs,
+        n,
+        out,
+    )
+}
+
+// A refused call leaves the output as it was; bytes after the result stay.
+pub fn tidy(pairs: &[u64], seg: &[u8], out: &mut [u8]) -> Written
+    ensures { λ r. ⌜ outcome r (now (out .exit)) ≡ tidyOf (now (pairs .entry)) (now (seg .entry)) (now (out .entry)) ⌝ }
+{
+    let tabled = Table::of(pairs);
+    if !tabled.good {
+        return Written::Refused(Refusal::Table);
+    }
+    let table = tabled.table;
+    let numbers = table.numbers;
+    let count = table.count;
+    tidy_under(&numbers[..count], seg, out)
+}
