@@ -9,7 +9,7 @@ use Rattle.rules.specs.declared.Verdict.{Verdict}
 use Rattle.rules.specs.declared.Verdict.the-variants.{Accepted, Refused}
 use Rattle.rules.specs.declared.Written.{Written}
 use Rattle.rules.specs.declared.Written.the-variants.{Refused as NotWritten}
-use Rattle.segment.specs.Tidy.{settled, outputAfter, Outcome, outcome}
+use Rattle.segment.specs.Tidy.{settled, outputAfter, outcome}
 use Rattle.emit.specs.Emit.{Wrote}
 use Rattle.arrange.specs.Left.{Left}
 

@@ -30,7 +30,7 @@ use Rattle.segment.specs.Check.{
   keyNo,
 }
 use Rattle.segment.specs.Meets.{ChecksumMeets}
-use Rattle.demands.proofs.TablesHeader.{checksum-book}
+use Rattle.book.proofs.TablesHeader.{checksum-book}
 
 -- a file whose table, size, header, layout and checksum are right, with its header written out
 pub record Sound (pairs s : List ℕ) (h : Header) : Type 0 where

@@ -1,12 +1,12 @@
 pub mod Files
 pub mod PCases
-pub mod Rows
-pub mod TablesHeader
-pub mod TablesRecord
-pub mod TablesWhole
 pub mod Rulebook
 pub mod Stops
 pub mod Refusals
 pub mod LookUps
 pub mod Settling
 pub mod Tidying
+pub mod Requests
+pub mod Writing
+pub mod Flat
+pub mod Asking

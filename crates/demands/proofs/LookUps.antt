@@ -29,7 +29,8 @@ use Rattle.find.proofs.Finding.{never-absent, never-refused, found-all, found-f
 use Rattle.demands.specs.PCases.{accepted}
 use Rattle.demands.specs.LookUps.{HasKey, Finds, LookGiven, by-table, by-key, by-segment}
 use Rattle.demands.specs.Refusals.{Given}
-use Rattle.demands.proofs.Rulebook.{answer-is, under-table, accepts-iff}
+use Rattle.book.proofs.Book.{under-table}
+use Rattle.demands.proofs.Rulebook.{answer-is, accepts-iff}
 use Rattle.demands.proofs.Refusals.{refused-iff}
 
 -- a segment that check accepts: the table is good, and 1 to 12 hold

@@ -1,10 +1,10 @@
 -- Each refusal of check is given exactly when its rule is broken and every rule before it in the order is kept. One way by what check answers there;
 -- the other by a walk through the rules, which comes to the end or to a refusal that is given so.
 -- Assumes nothing.
-use Prim.Native.Nat.{ℕ, _<_}
+use Prim.Native.Nat.{ℕ}
 use mathlib.Core.Path.{_≡_, refl, _∙_}
 use mathlib.Core.Bool.{Bool, true, false}
-use mathlib.Core.Logic.{_↔_, Iff·rfl, Dec·not-not, by-cases}
+use mathlib.Core.Logic.{_↔_, Iff·rfl, by-cases}
 use mathlib.Core.List.{List}
 use native.Mathlib.Decide.{ℕ-discrete}
 use Rattle.rules.specs.declared.Refusal.{Refusal}
@@ -27,12 +27,13 @@ use Rattle.rules.specs.declared.Verdict.{Verdict}
 use Rattle.rules.specs.declared.Verdict.the-variants.{Accepted, Refused}
 use Rattle.rules.specs.Rules.{firstOver}
 use Rattle.rules.specs.Answers.{refused}
-use Rattle.rules.proofs.Order.{first-accepted, first-is-lowest, Lowest}
+use Rattle.rules.proofs.Order.{never-both, Lowest, by-run}
 use Rattle.segment.specs.Format.{v3, headerOf, recordCount}
 use Rattle.segment.specs.Table.{goodTable}
 use Rattle.segment.specs.Keys.{freshKey}
 use Rattle.segment.specs.Check.{recordVerdict, keyNo, checked, checkOf}
 use Rattle.segment.specs.Meets.{MarksMeet, DigestMeets, RecordMeets}
+use Rattle.order.proofs.Fresh.{refused-twice}
 use Rattle.demands.specs.Refusals.{
   MagicMeets,
   VersionMeets,
@@ -46,20 +47,12 @@ use Rattle.demands.specs.Refusals.{
   Reached,
   Given,
 }
-use Rattle.demands.proofs.Rows.{never-both, decided}
-use Rattle.demands.proofs.TablesHeader.{size-book, header-book, layout-book, checksum-book}
-use Rattle.demands.proofs.TablesRecord.{marks-book, digest-book, extents-book, record-book}
-use Rattle.demands.proofs.TablesWhole.{visibility-book, earlier-decided, fresh-book}
+use Rattle.book.proofs.Rows.{decided}
+use Rattle.book.proofs.TablesHeader.{size-book, header-book, layout-book, checksum-book}
+use Rattle.book.proofs.TablesRecord.{marks-book, digest-book, extents-book, record-book}
+use Rattle.book.proofs.TablesWhole.{visibility-book}
 use Rattle.demands.proofs.Rulebook.{answer-is}
 use Rattle.demands.proofs.Stops.{at-keys, given-refused}
-
--- a run is accepted at each place, or there is a lowest at which it is not
-by-run : {C : Type 0} (n : ℕ) (f : ℕ → Verdict) → (((k : ℕ) → k < n → f k ≡ Accepted) → C) → ((r : Refusal) → Lowest n f r → C) → C
-by-run {C} n f all some = go (firstOver n f) refl
-  where
-    go : (v : Verdict) → firstOver n f ≡ v → C
-    go Accepted e = all (first-accepted n f .0 e)
-    go (Refused r) e = some r (first-is-lowest n f r .0 e)
 
 -- where the walk comes to
 data Judged (pairs s : List ℕ) : Type 0 where
@@ -69,18 +62,14 @@ data Judged (pairs s : List ℕ) : Type 0 where
 -- ---- the walk, from its last step to its first
 
 module _ (pairs s : List ℕ) where
-  first-duplicate : UpToVisibility pairs s → (r : Refusal) → Lowest (recordCount (headerOf s)) (freshKey (keyNo v3 s (headerOf s))) r → Judged pairs s
-  first-duplicate u r l =
-      let fresh = fresh-book v3 s (headerOf s) in
-      let stands = Dec·not-not (earlier-decided v3 s (headerOf s) (l .at)) .0 (λ n. never-both (fresh (l .at) .1 n) (l .here)) in
-      gives (Duplicate (l .at)) (u, l .within, stands, λ j i. fresh j .0 (l .before j i))
-
   from-keys : UpToVisibility pairs s → Judged pairs s
-  from-keys u =
-      let fresh = freshKey (keyNo v3 s (headerOf s)) in
-      by-run (recordCount (headerOf s)) fresh
-      (λ all. accepts (at-keys pairs s u ∙ first-accepted (recordCount (headerOf s)) fresh .1 all))
-      (first-duplicate u)
+  from-keys u = go (firstOver (recordCount (headerOf s)) (freshKey (keyNo v3 s (headerOf s)))) refl
+    where
+      go : (v : Verdict) → firstOver (recordCount (headerOf s)) (freshKey (keyNo v3 s (headerOf s))) ≡ v → Judged pairs s
+      go Accepted e = accepts (at-keys pairs s u ∙ e)
+      go (Refused r) e =
+          let d = refused-twice (keyNo v3 s (headerOf s)) (recordCount (headerOf s)) r e in
+          gives (Duplicate (d .0)) (u, d .2)
 
   from-visibility : UpToRecords pairs s → Judged pairs s
   from-visibility u =

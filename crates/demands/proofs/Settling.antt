@@ -13,14 +13,14 @@ use Rattle.rules.specs.declared.Refusal.{Refusal}
 use Rattle.rules.specs.declared.Refusal.the-variants.{Room, Large}
 use Rattle.rules.specs.declared.Verdict.{Verdict}
 use Rattle.rules.specs.declared.Verdict.the-variants.{Accepted, Refused as Stopped}
+use Rattle.rules.specs.declared.Written.{Written}
 use Rattle.rules.specs.declared.Written.the-variants.{Done, Refused}
 use Rattle.rules.specs.Rules.{must, _then_, after}
-use Rattle.rules.proofs.Order.{must-accepted, then-refused}
+use Rattle.rules.proofs.Order.{must-accepted, rows, then-refused}
 use Rattle.rules.proofs.Settled.{written-settled}
 use Rattle.segment.specs.Format.{fileLimit}
 use Rattle.segment.specs.Tidy.{roomVerdict, outputAfter, Outcome, outcome, settled}
 use Rattle.demands.specs.Tidying.{Wrote, SizeGiven, by-limit, by-room}
-use Rattle.demands.proofs.Rows.{rows}
 
 after-done : (v : Verdict) (n m : ℕ) → after Refused v (Done n) ≡ Done m ↔ (v ≡ Accepted) × (n ≡ m)
 after-done Accepted n m = (λ e. (refl, cc), λ e. ap Done (e .1))
@@ -58,13 +58,14 @@ module _ (v : Verdict) (result : List ℕ) where
   unfolding settled roomVerdict
   settled-done room n = simp (after-done, rows) Iff·rfl
 
-  pub settled-refused : (room : ℕ) (r : Refusal) → settled v result room ≡ Refused r
-      ↔ (v ≡ Stopped r) ⊎ ((v ≡ Accepted) × SizeGiven (length result) room r)
+  -- the refusals of what comes before, then 16, 13
+  pub settled-refused : {A : Type 0} {G : Refusal → Type 0} → v ≡ Accepted ↔ A → ((r : Refusal) → v ≡ Stopped r ↔ G r) → (room : ℕ) (r : Refusal)
+      → settled v result room ≡ Refused r ↔ G r ⊎ (A × SizeGiven (length result) room r)
   unfolding settled
-  settled-refused room r =
+  settled-refused a g room r =
       let size = room-refused (length result) room r in
       simp (after-refused, then-refused)
-      (⊎-map (λ e. e) (λ p. (p .0, size .0 (p .1))), ⊎-map (λ e. e) (λ p. (p .0, size .1 (p .1))))
+      (⊎-map (g r .0) (λ p. (a .0 (p .0), size .0 (p .1))), ⊎-map (g r .1) (λ p. (a .1 (p .0), size .1 (p .1))))
 
   -- what is answered and left
   module _ (out : List ℕ) where
@@ -87,3 +88,9 @@ module _ (v : Verdict) (result : List ℕ) where
 
     pub refused-keeps : (r : Refusal) → settled v result (length out) ≡ Refused r → left .output ≡ out
     refused-keeps r e = rw e
+
+-- two answers that one promise allows are equal, and so is what they leave
+pub one-outcome : (o : Outcome) (v w : Written) (x y : List ℕ) → outcome v x ≡ o → outcome w y ≡ o → (v ≡ w) × (x ≡ y)
+one-outcome o v w x y p q =
+    let same : outcome v x ≡ outcome w y = p ∙ sym q in
+    (written-settled v w (ap (λ (u : Outcome). u .answer) same), ap (λ (u : Outcome). u .output) same)

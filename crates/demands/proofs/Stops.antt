@@ -26,7 +26,7 @@ use Rattle.rules.specs.declared.Refusal.the-variants.{
 }
 use Rattle.rules.specs.declared.Verdict.the-variants.{Accepted, Refused}
 use Rattle.rules.specs.Rules.{_then_, firstOver}
-use Rattle.rules.proofs.Order.{first-accepted, first-refused}
+use Rattle.rules.proofs.Order.{first-refused}
 use Rattle.segment.specs.Format.{v3, headerOf, recordCount}
 use Rattle.segment.specs.Keys.{freshKey}
 use Rattle.segment.specs.Check.{
@@ -41,6 +41,7 @@ use Rattle.segment.specs.Check.{
   segmentVerdict,
   checked,
 }
+use Rattle.order.proofs.Fresh.{twice-refused}
 use Rattle.demands.specs.Refusals.{
   recordIn,
   UpToSize,
@@ -52,7 +53,7 @@ use Rattle.demands.specs.Refusals.{
   Reached,
   Given,
 }
-use Rattle.demands.proofs.TablesHeader.{
+use Rattle.book.proofs.TablesHeader.{
   table-broken,
   size-book,
   size-broken,
@@ -65,9 +66,9 @@ use Rattle.demands.proofs.TablesHeader.{
   checksum-book,
   checksum-broken,
 }
-use Rattle.demands.proofs.TablesRecord.{marks-broken, digest-broken, extents-broken, total-broken}
-use Rattle.demands.proofs.TablesWhole.{visibility-book, visibility-broken, fresh-book, fresh-broken}
-use Rattle.demands.proofs.Rulebook.{records-book, under-table}
+use Rattle.book.proofs.TablesRecord.{marks-broken, digest-broken, extents-broken, total-broken}
+use Rattle.book.proofs.TablesWhole.{visibility-book, visibility-broken}
+use Rattle.book.proofs.Book.{records-book, under-table}
 
 module _ (pairs s : List ℕ) where
   -- ---- what check comes to, once all that is before is kept
@@ -138,10 +139,7 @@ module _ (pairs s : List ℕ) where
   given-refused (Extents k) u = record-stops k (u .0) (extents-broken v3 pairs s (headerOf s) (recordIn s k) k (u .1) (u .2) (u .3))
   given-refused (Total k) u = record-stops k (u .0) (total-broken v3 pairs s (headerOf s) (recordIn s k) k (u .1) (u .2) (u .3) (u .4))
   given-refused Visibility u = visibility-stops (u .0) (visibility-broken v3 s (headerOf s) (u .1))
-  given-refused (Duplicate k) u =
-      let fresh = freshKey (keyNo v3 s (headerOf s)) in
-      let earlier = first-accepted k fresh .1 (λ j l. fresh-book v3 s (headerOf s) j .1 (u .3 j l)) in
-      at-keys (u .0) ∙ first-refused (recordCount (headerOf s)) k fresh (Duplicate k) (u .1) earlier (fresh-broken v3 s (headerOf s) k (u .2))
+  given-refused (Duplicate k) u = at-keys (u .0) ∙ twice-refused (keyNo v3 s (headerOf s)) (recordCount (headerOf s)) k (u .1)
   given-refused Room u = absurd u
   given-refused (ListEnd k) u = absurd u
   given-refused Large u = absurd u

@@ -2,3 +2,5 @@ pub mod PCases
 pub mod Refusals
 pub mod LookUps
 pub mod Tidying
+pub mod Writing
+pub mod Asking

@@ -30,6 +30,8 @@ use Rattle.rules.specs.declared.Refusal.the-variants.{
 use Rattle.segment.specs.declared.record.Record.{Record}
 use Rattle.segment.specs.Format.{v3, headerOf, recordCount, recordNo}
 use Rattle.segment.specs.Table.{goodTable}
+use Rattle.segment.specs.Keys.{FirstTwice}
+use Rattle.segment.specs.Check.{keyNo}
 use Rattle.segment.specs.Meets.{
   SizeMeets,
   HeaderMeets,
@@ -41,7 +43,6 @@ use Rattle.segment.specs.Meets.{
   TotalMeets,
   RecordMeets,
   VisibilityMeets,
-  StandsEarlier,
 }
 
 -- ---- the rules that the rule book has no name for: 2 and 3
@@ -118,9 +119,7 @@ Given pairs s (Total k) =
     × ¬ TotalMeets v3 s (recordIn s k)
 Given pairs s Visibility = UpToRecords pairs s × ¬ VisibilityMeets v3 s (headerOf s)
 -- at the lowest record whose key stands earlier
-Given pairs s (Duplicate k) =
-    UpToVisibility pairs s × (k < recordCount (headerOf s)) × StandsEarlier v3 s (headerOf s) k
-    × ((j : ℕ) → j < k → ¬ StandsEarlier v3 s (headerOf s) j)
+Given pairs s (Duplicate k) = UpToVisibility pairs s × FirstTwice (keyNo v3 s (headerOf s)) (recordCount (headerOf s)) k
 -- the refusals of write, look up and tidy alone
 Given pairs s Room = ⊥
 Given pairs s (ListEnd k) = ⊥

@@ -4,11 +4,11 @@
 --   tidyBytes   the tidy form of a segment's meaning
 --   Tidiable    tidy does not refuse
 --   SizeGiven, TidyGiven   when it gives a refusal
---   TidyKeeps   what holds of the bytes that it wrote
+--   Keeps       what holds of the bytes that were written for a meaning
 -- Assumes nothing: these are definitions.
 use Prim.Native.Nat.{ℕ, _≤_, _<_}
 use mathlib.Core.Path.{_≡_}
-use mathlib.Core.Logic.{_↔_}
+use mathlib.Core.Logic.{_↔_, _⊎_}
 use mathlib.Core.List.{List, [], _∷_, _++_}
 use lib.ListN.{length, drop}
 use Rattle.numbers.specs.Numbers.{Bytes}
@@ -17,7 +17,7 @@ use Rattle.rules.specs.declared.Refusal.the-variants.{Room, Large}
 use Rattle.rules.specs.Answers.{answered}
 use Rattle.segment.specs.Format.{v3, fileLimit}
 use Rattle.segment.specs.Check.{checkOf}
-use Rattle.segment.specs.Meaning.{meaningOf, SameMeaning}
+use Rattle.segment.specs.Meaning.{Meaning, meaningOf, SameMeaning}
 use Rattle.segment.specs.Tidy.{rowLeq, tidyForm, Outcome, tidyOf}
 use Rattle.order.specs.Order.{Ascending}
 use Rattle.demands.specs.PCases.{accepted}
@@ -43,15 +43,14 @@ pub data SizeGiven (n room : ℕ) : Refusal → Type 0 where
   by-room : n ≤ fileLimit → room < n → SizeGiven n room Room
 
 -- as check, then those
-pub data TidyGiven (pairs s : List ℕ) (room : ℕ) : Refusal → Type 0 where
-  by-check : {r : Refusal} → Given pairs s r → TidyGiven pairs s room r
-  by-size : {r : Refusal} → checkOf pairs s ≡ accepted → SizeGiven (length (tidyBytes s)) room r → TidyGiven pairs s room r
+abbrev pub TidyGiven : List ℕ → List ℕ → ℕ → Refusal → Type 0
+TidyGiven pairs s room r = Given pairs s r ⊎ ((checkOf pairs s ≡ accepted) × SizeGiven (length (tidyBytes s)) room r)
 
--- of the bytes r that tidy wrote for the segment s
-pub record TidyKeeps (pairs s r : List ℕ) : Type 0 where
+-- of the bytes r that tidy wrote for the meaning of a segment, or write for what was asked for
+pub record Keeps (pairs : List ℕ) (m : Meaning) (r : List ℕ) : Type 0 where
   pub bytes : Bytes r
   pub accepts : checkOf pairs r ≡ accepted
-  pub means : SameMeaning (meaningOf v3 r) (meaningOf v3 s)
+  pub means : SameMeaning (meaningOf v3 r) m
   pub ascends : Ascending rowLeq (meaningOf v3 r .records)
   -- they are their own tidy form: tidied again, into any output that has room for them, no byte changes
   pub itself : tidyBytes r ≡ r

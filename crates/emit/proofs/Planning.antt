@@ -18,7 +18,7 @@ use Rattle.form.proofs.Sizes.{section-long, v3-length}
 use Rattle.order.specs.declared.Kind.{Kind}
 use Rattle.order.specs.Order.{Each}
 use Rattle.lines.specs.declared.Sizes.{Sizes}
-use Rattle.lines.specs.Lines.{itemEntry, itemRow, itemRows, Lines, measured}
+use Rattle.lines.specs.Lines.{itemRow, itemRows, Lines, measured}
 use Rattle.lines.proofs.Rows.{digests-come, extents-come, visibility-comes}
 use Rattle.emit.specs.Emit.{Moderate, headerFor, Plan, Wrote}
 

@@ -2,16 +2,16 @@
 -- Assumes nothing.
 use Prim.Native.Nat.{ℕ, _+_, _-_, _*_, _≤_}
 use mathlib.Core.Path.{_≡_, refl, sym, ap, _∙_}
-use mathlib.Core.List.{List, [], _∷_, _++_, append-assoc, map}
+use mathlib.Core.List.{List, [], _∷_, _++_, append-assoc}
 use native.Mathlib.Omega.{arith}
 use borrow.Rule.Slice.PartMut.{putMid}
-use lib.ListN.{length, take, drop, replicate, length-append, length-map, take-append-drop}
+use lib.ListN.{length, take, drop, length-append, length-map, take-append-drop}
 use lib.Seq.{length-take-le}
 use Rattle.numbers.specs.Numbers.{put}
 use Rattle.segment.specs.declared.header.Header.{Header}
 use Rattle.segment.specs.Format.{v3, recordsOffset, digestsOffset, extentsOffset}
 use Rattle.segment.specs.Meaning.{Row}
-use Rattle.segment.specs.Tidy.{recordsBytes, digestBytes, lacking, digestSection, extentBytes, extentTotal}
+use Rattle.segment.specs.Tidy.{recordsBytes, digestBytes, lacking, digestSection, extentBytes}
 use Rattle.form.proofs.Shapes.{v3-shaped}
 use Rattle.form.proofs.Sizes.{records-long, section-long, extentBytes-long}
 use Rattle.order.specs.declared.Kind.{Kind}

@@ -1,7 +1,6 @@
 // A segment written from items in the order of their numbers: header, bloom bytes, records, digests, extents and footer. Nothing is
 // written before it is known that the result keeps to the limit and fits the output.
 ghost use mathlib.Core.Path.{_≡_};
-ghost use mathlib.Core.List.{_++_};
 ghost use Prim.Native.Nat.{_+_, _≤_};
 ghost use lib.ListN.{length};
 ghost use Rattle.numbers.specs.Numbers.{put};

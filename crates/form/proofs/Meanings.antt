@@ -9,7 +9,7 @@ use mathlib.Core.List.{List, [], _∷_}
 use native.Mathlib.Nat.{pow-succ'}
 use native.Mathlib.Omega.{arith}
 use borrow.Author.Tests.{eqb-false}
-use lib.Dec.{eqb, lit<}
+use lib.Dec.{lit<}
 use lib.ListN.{length, take, drop, length-drop}
 use lib.Seq.{length-take-le}
 use Rattle.numbers.specs.Numbers.{le, numAt, Bytes}
@@ -20,8 +20,8 @@ use Rattle.segment.specs.declared.record.Record.{Record}
 use Rattle.segment.specs.Format.{Shape, blockEnd, headerOf, recordOf, extentOf, footerOf, recordCount, bloomSize, recordNo, extentsAt, extentsIn}
 use Rattle.segment.specs.Check.{isGone, digestIn, keyNo}
 use Rattle.segment.specs.Meets.{LayoutMeets, RecordMeets, LiveMeets, SumMeets, Meets}
-use Rattle.segment.specs.Meaning.{Row, rowKey, sourceOf, rowOf, rowNo, rowsOf, headingOf, meaningOf}
-use Rattle.segment.specs.Tidy.{domainOf}
+use Rattle.segment.specs.Meaning.{Row, rowKey, rowOf, rowNo, rowsOf, headingOf, meaningOf}
+use Rattle.segment.proofs.Sources.{source-fits}
 use Rattle.order.specs.Order.{Each}
 use Rattle.form.specs.Form.{ExtentWritable, LiveWritable, Writable, Contents}
 use Rattle.form.proofs.Counted.{counted-long, each-iff, pairwise-iff}
@@ -70,9 +70,6 @@ module _ (s : List ℕ) (b : Bytes s) where
       }
 
   -- ---- one record
-
-  source-fits : (imported domain : ℕ) → domain < 4294967296 → domainOf (sourceOf imported domain) < 4294967296
-  source-fits imported domain l = by-test (eqb imported 0) (λ e. rw e (omega arith)) (λ e. rw e l)
 
   row-writable : (sh : Shape) (pairs : List ℕ) (h : Header) → LayoutMeets sh s h → (at : ℕ) → RecordMeets sh pairs s h (recordOf sh s at)
       → Writable sh pairs (rowOf s (recordOf sh s at))

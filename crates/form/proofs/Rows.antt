@@ -8,26 +8,14 @@ use mathlib.Core.List.{List, [], _∷_, map}
 use native.Mathlib.Nat.{not-suc-le-zero}
 use native.Mathlib.Omega.{arith}
 use lib.ListN.{length, length-append}
-use Rattle.rules.specs.declared.Source.{Source}
-use Rattle.rules.specs.declared.Source.the-variants.{None, Domain}
 use Rattle.segment.specs.declared.header.Header.{Header}
 use Rattle.segment.specs.declared.record.Record.{Record}
 use Rattle.segment.specs.Format.{Shape, fileLimit, recordOf, recordsOffset, digestsOffset, digestsSize, extentsOffset, extentCount, recordNo}
 use Rattle.segment.specs.Check.{digestIn}
 use Rattle.segment.specs.Meets.{RecordMeets}
-use Rattle.segment.specs.Meaning.{Row, rowExtents, sourceOf, rowOf, rowNo, countFrom}
-use Rattle.segment.specs.Tidy.{
-  packed,
-  recordFields,
-  importedOf,
-  domainOf,
-  recordFor,
-  recordsBytes,
-  digestBytes,
-  extentListBytes,
-  extentBytes,
-  extentTotal,
-}
+use Rattle.segment.specs.Meaning.{Row, rowExtents, rowOf, rowNo, countFrom}
+use Rattle.segment.proofs.Sources.{imported-fits, own-source, source-read}
+use Rattle.segment.specs.Tidy.{packed, recordFields, recordFor, recordsBytes, digestBytes, extentListBytes, extentBytes, extentTotal}
 use Rattle.order.specs.Order.{Each}
 use Rattle.form.specs.Form.{Writable}
 use Rattle.form.proofs.Places.{HasAt, has-left, has-right, has-taken}
@@ -55,20 +43,6 @@ pub record Placed (sh : Shape) (pairs s : List ℕ) (h : Header) (rs : List Row)
 pub record ReadsAs (sh : Shape) (pairs s : List ℕ) (h : Header) (r : Row) (q : Record) : Type 0 where
   pub row : rowOf s q ≡ r
   pub meets : RecordMeets sh pairs s h q
-
--- ---- the source
-
-imported-fits : (src : Source) → importedOf src ≤ 1
-imported-fits None = omega arith
-imported-fits (Domain d) = omega arith
-
-own-source : (src : Source) → importedOf src ≡ 0 → domainOf src ≡ 0
-own-source None e = refl
-own-source (Domain d) e = absurd (omega arith)
-
-source-read : (src : Source) → sourceOf (importedOf src) (domainOf src) ≡ src
-source-read None = refl
-source-read (Domain d) = refl
 
 -- ---- the first record
 

@@ -1,8 +1,8 @@
 -- What each kind of source says of an item: where it stands, its nine numbers, its extents and its total.
 -- Assumes nothing.
 use Prim.Native.Nat.{ℕ, suc, _+_, _-_, _*_, _%_, _^_, _≤_, _<_}
-use mathlib.Core.Path.{_≡_, refl, sym, ap, subst, _∙_}
-use mathlib.Core.List.{List, [], _∷_}
+use mathlib.Core.Path.{_≡_, sym, subst, _∙_}
+use mathlib.Core.List.{List}
 use native.Mathlib.Omega.{arith}
 use lib.ListN.{length, getD}
 use Rattle.numbers.specs.Numbers.{numAt}
@@ -16,7 +16,7 @@ use Rattle.segment.specs.Tidy.{packed, extentFields}
 use Rattle.segment.specs.Write.{entryNo, listedExtent, extentsFrom}
 use Rattle.order.specs.declared.Kind.{Kind}
 use Rattle.order.specs.declared.Kind.the-variants.{Records, Entries}
-use Rattle.lines.specs.Lines.{recordEntry, itemEntry, itemExtent, Held, itemTotal, entryExtents, Line}
+use Rattle.lines.specs.Lines.{recordEntry, itemEntry, itemExtent, Held, itemTotal, Line}
 
 -- ---- an item's numbers
 

@@ -1,32 +1,30 @@
 -- An item that may be written, and its row in the meaning: the row's parts are the item's numbers, its record is the row's, items sorted by their
 -- keys are rows sorted by theirs; and each kind's rows are those of the meaning.
 -- Assumes nothing.
-use Prim.Native.Nat.{ℕ, zero, suc, _+_, _*_, _≤_, _<_, max}
+use Prim.Native.Nat.{ℕ, zero, suc, _+_, max}
 use mathlib.Core.Path.{_≡_, refl, sym, ap, _∙_}
 use mathlib.Core.Bool.{Bool, true, false, cond}
-use mathlib.Core.List.{List, [], _∷_, _++_, map}
+use mathlib.Core.List.{List, [], _∷_, map}
 use native.Mathlib.Omega.{arith}
 use borrow.Author.Tests.{eqb-true, eqb-false}
 use lib.Dec.{eqb}
-use lib.ListN.{length, take, drop, length-append, length-drop}
+use lib.ListN.{length, drop, length-append, length-drop}
 use lib.Seq.{length-take-le}
-use Rattle.rules.proofs.Order.{tests, by-test}
+use Rattle.rules.proofs.Order.{by-test}
 use Rattle.segment.specs.declared.header.Header.{Header}
-use Rattle.segment.specs.declared.record.Record.{Record}
-use Rattle.segment.specs.declared.extent.Extent.{Extent}
 use Rattle.segment.specs.declared.entry.Entry.{Entry}
-use Rattle.segment.specs.Format.{v3, recordOf, recordsOffset, recordNo, extentOf, extentsAt}
+use Rattle.segment.specs.Format.{v3, recordsOffset, recordNo, extentsAt}
 use Rattle.segment.specs.Keys.{insert, sortBy}
 use Rattle.segment.specs.Check.{sumLengths, digestIn}
-use Rattle.segment.specs.Meaning.{gone, live, Row, rowKey, rowExtents, sourceOf, rowOf, rowNo}
+use Rattle.segment.specs.Meaning.{gone, Row, rowKey, rowExtents, sourceOf, rowOf, rowNo}
 use Rattle.segment.specs.Tidy.{importedOf, domainOf, flagsOf, placeOf, recordFor, digestBytes, extentTotal, largestVisibility, rowLeq}
 use Rattle.segment.specs.Write.{entryNo, entryDigestBytes, extentsFrom, entryRow}
+use Rattle.segment.proofs.Extents.{listed-counted}
 use Rattle.order.specs.declared.Kind.{Kind}
 use Rattle.order.specs.declared.Kind.the-variants.{Records, Entries}
 use Rattle.order.specs.Items.{recordSpan, entrySpan, itemHash, itemSpan, itemDigest, itemKey, Item}
 use Rattle.order.specs.Order.{Each, itemLeq}
-use Rattle.lines.specs.declared.Sizes.{Sizes}
-use Rattle.lines.specs.Lines.{recordEntry, itemEntry, itemExtent, itemExtents, Held, itemTotal, entryExtents, rowOfEntry, itemRow, itemRows, Counted, Line, Lines, recordOfEntry, measured}
+use Rattle.lines.specs.Lines.{recordEntry, itemEntry, itemExtents, itemTotal, entryExtents, rowOfEntry, itemRow, itemRows, Counted, Line, Lines, recordOfEntry, measured}
 
 -- ---- an item's key is its row's
 
@@ -93,15 +91,10 @@ unfolding extentsAt
 extentsAt-length s at zero = refl
 extentsAt-length s at (suc n) = ap suc (extentsAt-length s (at + 16) n)
 
-extentsFrom-length : (xs : List ℕ) (j n : ℕ) → length (extentsFrom xs j n) ≡ n
-unfolding extentsFrom
-extentsFrom-length xs j zero = refl
-extentsFrom-length xs j (suc n) = ap suc (extentsFrom-length xs (suc j) n)
-
 pub extents-length : (kind : Kind) (bytes extents : List ℕ) (first n : ℕ) → length (itemExtents kind bytes extents first n) ≡ n
 unfolding itemExtents
 extents-length (Records at) bytes extents first n = extentsAt-length bytes first n
-extents-length Entries bytes extents first n = extentsFrom-length extents first n
+extents-length Entries bytes extents first n = listed-counted extents first n
 
 pub extents-none : (kind : Kind) (bytes extents : List ℕ) (first : ℕ) → itemExtents kind bytes extents first 0 ≡ []
 unfolding itemExtents extentsAt extentsFrom

@@ -8,3 +8,4 @@ pub mod Each
 pub mod Arranged
 pub mod Merging
 pub mod Halves
+pub mod Climbing

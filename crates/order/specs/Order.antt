@@ -2,13 +2,14 @@
 --   lex, notGreater    how two lists of numbers stand to each other, number by number and the shorter first; whether the first of
 --                      two comes no later
 --   itemLeq            whether an item's key comes no later than another's
+--   climbs             whether each of some items comes before the next
 --   Each, Readable     what holds of each element; numbers of items that can be read
 --   mergeBy, leftNext  two lists in one, and whether the left one gives the next element
 --   Ascending          each element comes no later than the next
 -- Assumes nothing: these are definitions.
-use Prim.Native.Nat.{ℕ}
+use Prim.Native.Nat.{ℕ, zero, suc}
 use mathlib.Core.Path.{_≡_}
-use mathlib.Core.Bool.{Bool, true, false, cond}
+use mathlib.Core.Bool.{Bool, true, false, cond, not, _&&_}
 use mathlib.Core.List.{List, [], _∷_}
 use lib.Dec.{ltb}
 use Rattle.segment.specs.Keys.{lexLeq}
@@ -30,6 +31,12 @@ notGreater Greater = false
 
 unfoldable pub itemLeq : Kind → List ℕ → List ℕ → ℕ → ℕ → Bool
 itemLeq kind bytes list i j = lexLeq (itemKey kind bytes list i) (itemKey kind bytes list j)
+
+-- of 0, 1, .. below n, each comes before the next: the next does not come as early
+unfoldable pub climbs : (ℕ → ℕ → Bool) → ℕ → Bool
+climbs leq zero = true
+climbs leq (suc zero) = true
+climbs leq (suc (suc n)) = climbs leq (suc n) && not (leq (suc n) n)
 
 unfoldable pub Each : {A : Type 0} → (A → Type 0) → List A → Type 0
 Each P [] = Unit

@@ -7,7 +7,7 @@ ghost use lib.ListN.{length, take, drop};
 ghost use Rattle.rules.specs.Rules.{firstOver};
 ghost use Rattle.segment.specs.Keys.{keyOf, eqList, lexLeq, sameKey, freshKey, sortBy};
 ghost use Rattle.order.specs.Items.{recordSpan, entrySpan, Item, Items, itemHash, itemSpan, itemDigest, itemKey};
-ghost use Rattle.order.specs.Order.{lex, itemLeq, Readable, leftNext, mergeBy};
+ghost use Rattle.order.specs.Order.{lex, itemLeq, climbs, Readable, leftNext, mergeBy};
 use rules::Refusal;
 use rules::Verdict;
 use segment::record;
@@ -112,31 +112,6 @@ pub fn key_is(kind: Kind, bytes: &[u8], list: &[u64], k: usize, hash: u64, wante
     same_bytes(digest(kind, bytes, list, k), wanted)
 }
 
-// The first of n items whose key stands earlier, if there is one.
-pub fn check_keys(kind: Kind, bytes: &[u8], list: &[u64], n: usize) -> Verdict
-    requires { ⌜ Items kind (now bytes) (now list) n ⌝ }
-    ensures { λ r. ⌜ r ≡ firstOver n (freshKey (itemKey kind (now (bytes .entry)) (now (list .entry)))) ⌝ }
-{
-    let mut i = 0;
-    let found = 'pairs: loop {
-        if n <= i {
-            break 'pairs n;
-        }
-        let mut j = 0;
-        while j < i {
-            if same_key(kind, bytes, list, i, j) {
-                break 'pairs i;
-            }
-            j += 1;
-        }
-        i += 1;
-    };
-    if found < n {
-        return Verdict::Refused(Refusal::Duplicate(found as u64));
-    }
-    Verdict::Accepted
-}
-
 // How two lists of bytes stand to each other.
 pub enum Compared {
     Less,
@@ -192,6 +167,57 @@ pub fn comes_first(kind: Kind, bytes: &[u8], list: &[u64], i: usize, j: usize) -
         return false;
     }
     no_later(digest(kind, bytes, list, i), digest(kind, bytes, list, j))
+}
+
+// Whether each item's key comes before the next one's. Then no key stands twice.
+fn keys_climb(kind: Kind, bytes: &[u8], list: &[u64], n: usize) -> bool
+    requires { ⌜ Items kind (now bytes) (now list) n ⌝ }
+    ensures { λ r. ⌜ r ≡ climbs (itemLeq kind (now (bytes .entry)) (now (list .entry))) n ⌝ }
+{
+    let mut i = 1;
+    while i < n {
+        if comes_first(kind, bytes, list, i, i - 1) {
+            return false;
+        }
+        i += 1;
+    }
+    true
+}
+
+// The first of n items whose key stands earlier, if there is one: every pair is looked at.
+fn scan_keys(kind: Kind, bytes: &[u8], list: &[u64], n: usize) -> Verdict
+    requires { ⌜ Items kind (now bytes) (now list) n ⌝ }
+    ensures { λ r. ⌜ r ≡ firstOver n (freshKey (itemKey kind (now (bytes .entry)) (now (list .entry)))) ⌝ }
+{
+    let mut i = 0;
+    let found = 'pairs: loop {
+        if n <= i {
+            break 'pairs n;
+        }
+        let mut j = 0;
+        while j < i {
+            if same_key(kind, bytes, list, i, j) {
+                break 'pairs i;
+            }
+            j += 1;
+        }
+        i += 1;
+    };
+    if found < n {
+        return Verdict::Refused(Refusal::Duplicate(found as u64));
+    }
+    Verdict::Accepted
+}
+
+// The first of n items whose key stands earlier, if there is one. Keys that climb, as in tidy order, are passed over once.
+pub fn check_keys(kind: Kind, bytes: &[u8], list: &[u64], n: usize) -> Verdict
+    requires { ⌜ Items kind (now bytes) (now list) n ⌝ }
+    ensures { λ r. ⌜ r ≡ firstOver n (freshKey (itemKey kind (now (bytes .entry)) (now (list .entry)))) ⌝ }
+{
+    if keys_climb(kind, bytes, list, n) {
+        return Verdict::Accepted;
+    }
+    scan_keys(kind, bytes, list, n)
 }
 
 // Whether a merge that has passed i numbers of a and j of b goes on with one of a. Of equal keys a's is first, so that a sort

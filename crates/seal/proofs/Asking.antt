@@ -1,6 +1,6 @@
 -- A request that is accepted: each of its entries may be written, and its tidy form is that of its items.
 -- Assumes nothing.
-use Prim.Native.Nat.{ℕ, _+_, _*_, _/_, _≤_, _<_}
+use Prim.Native.Nat.{ℕ, _≤_, _<_}
 use mathlib.Core.Path.{_≡_, refl, ap, _∙_}
 use mathlib.Core.Bool.{true, false}
 use mathlib.Core.List.{List}
@@ -9,12 +9,11 @@ use lib.ListN.{length}
 use Rattle.rules.specs.declared.Written.{Written}
 use Rattle.rules.specs.declared.Written.the-variants.{Refused as NotWritten}
 use Rattle.rules.specs.declared.Refusal.the-variants.{Table as TableWrong}
-use Rattle.rules.specs.declared.Verdict.the-variants.{Accepted, Refused}
+use Rattle.rules.specs.declared.Verdict.the-variants.{Accepted}
 use Rattle.segment.specs.declared.header.Heading.{Heading}
 use Rattle.segment.specs.Format.{v3}
 use Rattle.segment.specs.Table.{goodTable, tableVerdict}
-use Rattle.segment.specs.Meaning.{countFrom}
-use Rattle.segment.specs.Tidy.{tidyForm, settled, outputAfter, outcome}
+use Rattle.segment.specs.Tidy.{tidyForm, settled, outcome}
 use Rattle.segment.specs.Write.{Request, entryCount, entryNo, entryRow, entryDigestBytes, requestRules, requestVerdict, requested, wrote, writeOf}
 use Rattle.segment.proofs.Pairs.{allowed-small}
 use Rattle.order.specs.declared.Kind.the-variants.{Entries}

@@ -7,7 +7,7 @@ use mathlib.Core.List.{List, [], _∷_, _++_, append-nil, append-assoc}
 use native.Mathlib.Numerals.{add-one}
 use native.Mathlib.Omega.{arith}
 use borrow.Author.Fill.{fill-more}
-use lib.ListN.{length, length-set, getD, set, take, drop, replicate, drop-of-length-le, length-append, take-append-drop}
+use lib.ListN.{length, length-set, getD, set, take, drop, replicate, drop-of-length-le, take-append-drop}
 use lib.Seq.{take-all, take-suc, sets-eq, length-take-le}
 use Rattle.numbers.specs.Numbers.{put}
 use Rattle.numbers.proofs.Laws.{put-put, length-put}

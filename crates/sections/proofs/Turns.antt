@@ -1,8 +1,8 @@
 -- A turn of the loops over the items: the next item's part of a section is put behind those of the items before it.
 -- Assumes nothing.
-use Prim.Native.Nat.{ℕ, suc, _+_, _*_, _≤_, _<_}
-use mathlib.Core.Path.{_≡_, refl, sym, ap, _∙_}
-use mathlib.Core.List.{List, [], _∷_, _++_}
+use Prim.Native.Nat.{ℕ, _+_, _*_, _≤_, _<_}
+use mathlib.Core.Path.{_≡_, refl, ap, _∙_}
+use mathlib.Core.List.{List, [], _++_}
 use native.Mathlib.Numerals.{add-one}
 use native.Mathlib.Omega.{arith}
 use lib.ListN.{length, getD, drop, drop-of-length-le, length-map}
@@ -13,18 +13,16 @@ use Rattle.segment.specs.declared.header.Header.{Header}
 use Rattle.segment.specs.declared.record.Record.{Record}
 use Rattle.segment.specs.declared.entry.Entry.{Entry}
 use Rattle.segment.specs.Format.{v3, digestsOffset, extentsOffset}
-use Rattle.segment.specs.Meaning.{rowExtents}
-use Rattle.segment.specs.Tidy.{packed, recordFields, recordFor, recordsBytes, extentListBytes, extentBytes}
+use Rattle.segment.specs.Tidy.{packed, recordFields, recordsBytes, extentListBytes, extentBytes}
 use Rattle.form.proofs.Structures.{extents-long}
 use Rattle.form.proofs.Shapes.{v3-shaped, record-long}
 use Rattle.form.proofs.Sizes.{records-long}
 use Rattle.order.specs.declared.Kind.{Kind}
-use Rattle.order.specs.Items.{Item, itemDigest}
-use Rattle.order.specs.Order.{Each}
+use Rattle.order.specs.Items.{itemDigest}
 use Rattle.order.proofs.Each.{each-at}
 use Rattle.lines.specs.Lines.{itemEntry, itemExtents, Held, itemTotal, entryExtents, itemRow, itemRows, Narrow, Line, Lines, recordOfEntry}
 use Rattle.lines.proofs.Rows.{extents-length, row-extents, row-count, row-digest-length, row-record}
-use Rattle.sections.specs.Sections.{Near, itemDigests}
+use Rattle.sections.specs.Sections.{itemDigests}
 use Rattle.sections.proofs.Filling.{Filling, filling-start, filling-done, filling-room, filling-more}
 
 -- ---- records

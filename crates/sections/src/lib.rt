@@ -5,7 +5,7 @@ ghost use Prim.Native.Nat.{_+_, _*_, _≤_};
 ghost use lib.ListN.{length, replicate};
 ghost use Rattle.numbers.specs.Numbers.{put};
 ghost use Rattle.segment.specs.Format.{v3, digestsOffset, extentsOffset};
-ghost use Rattle.segment.specs.Tidy.{recordsBytes, digestSection, lacking, extentListBytes, extentBytes};
+ghost use Rattle.segment.specs.Tidy.{recordsBytes, lacking, extentListBytes, extentBytes};
 ghost use Rattle.order.specs.Items.{Item};
 ghost use Rattle.order.specs.Order.{Each};
 ghost use Rattle.lines.specs.Lines.{Held, itemExtents, itemRows, Lines};

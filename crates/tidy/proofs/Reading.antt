@@ -8,9 +8,9 @@ use mathlib.Core.List.{List, []}
 use native.Mathlib.Decide.{ℕ-discrete}
 use native.Mathlib.Omega.{arith}
 use lib.ListN.{length, take, drop}
-use Rattle.numbers.specs.Numbers.{numAt, Bytes}
+use Rattle.numbers.specs.Numbers.{Bytes}
 use Rattle.rules.specs.declared.Refusal.the-variants.{Table as TableWrong}
-use Rattle.rules.specs.declared.Verdict.the-variants.{Accepted, Refused}
+use Rattle.rules.specs.declared.Verdict.the-variants.{Accepted}
 use Rattle.rules.specs.declared.Written.{Written}
 use Rattle.rules.specs.declared.Written.the-variants.{Refused as NotWritten}
 use Rattle.segment.specs.declared.header.Header.{Header}

@@ -1,5 +1,4 @@
 -- `arrange::put_tidy` meets its contract: in small arrays, or in large ones.
-use native.Mathlib.Omega.{arith}
 use borrow.Author.Needs.{needs}
 use Rattle.arrange.proofs.put_tidy.Statement.{statement}
 use Rattle.arrange.proofs.put_tidy.Tie as tie

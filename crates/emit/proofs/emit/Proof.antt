@@ -1,13 +1,10 @@
 -- `emit::emit` meets its contract: the four answers.
 use Prim.Native.Nat.{ℕ, _≤_}
-use mathlib.Core.Path.{_≡_, refl, sym, _∙_}
+use mathlib.Core.Path.{_≡_, sym}
 use native.Mathlib.Omega.{arith}
 use borrow.Author.Needs.{needs}
-use lib.ListN.{length}
 use lib.Seq.{length-take-le}
-use Rattle.segment.specs.Format.{v3, extentsOffset, extentCount}
-use Rattle.segment.specs.Tidy.{formOf}
-use Rattle.lines.specs.Lines.{itemRows}
+use Rattle.segment.specs.Format.{extentsOffset, extentCount}
 use Rattle.lines.proofs.Rows.{counted-lines}
 use Rattle.emit.proofs.Planning.{moderate, bounded, form-header, form-long, plan, too-large, no-room, written, bloom-large}
 use Rattle.emit.proofs.emit.Statement.{statement}

@@ -1,5 +1,4 @@
 -- `lines::listed_extent` meets its contract: the three numbers, cut.
-use native.Mathlib.Omega.{arith}
 use borrow.Author.Needs.{needs}
 use Rattle.lines.proofs.Columns.{cut-extent}
 use Rattle.lines.proofs.listed_extent.Statement.{statement}

@@ -1,6 +1,5 @@
 -- `lines::sum_listed` meets its contract: j of the extents are added up.
 use Prim.Native.Nat.{_-_}
-use borrow.Author.Needs.{needs}
 use native.Mathlib.Omega.{arith}
 use Rattle.lines.proofs.Columns.{Adding, adding-start, adding-fits, adding-more, adding-done}
 use Rattle.lines.proofs.sum_listed.Statement.{statement}

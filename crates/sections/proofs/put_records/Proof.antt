@@ -1,7 +1,6 @@
 -- `sections::put_records` meets its contract: k records are put.
 use Prim.Native.Nat.{_-_, _≤_, _<_}
 use native.Mathlib.Omega.{arith}
-use borrow.Author.Needs.{needs}
 use lib.ListN.{length}
 use Rattle.order.proofs.Each.{each-at}
 use Rattle.sections.proofs.Turns.{Recording, recording-start, record-small, recording-more, recording-done, record-narrow}

@@ -1,5 +1,4 @@
 -- `tidy::heading_of` meets its contract: four numbers of the header, two of the footer.
-use borrow.Author.Needs.{needs}
 use native.Mathlib.Omega.{arith}
 use Rattle.segment.specs.Meaning.{headingOf}
 use Rattle.tidy.proofs.heading_of.Statement.{statement}
