@@ -1,10 +1,13 @@
 // The published cases: each is run, and says in one line what came out. `rt ci` holds the lines to the file `stdout`,
 // whose values come from the publications and not from a run of this program.
 mod checksums;
+mod counts;
 
 fn main() {
     checksums::of_text();
     checksums::of_equal_bytes();
     checksums::of_rising_bytes();
     checksums::of_a_mebibyte();
+    counts::most();
+    counts::too_many();
 }
