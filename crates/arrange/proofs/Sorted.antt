@@ -1,11 +1,11 @@
 -- Numbers counted up and sorted: each is still the number of an item that may be written, and the items' rows in that order are their rows, sorted.
 -- Assumes nothing.
-use Prim.Native.Nat.{ℕ, zero, suc, _+_, _-_, _≤_, _<_}
+use Prim.Native.Nat.{ℕ, zero, suc, _+_, _≤_, _<_}
 use mathlib.Core.Path.{_≡_, refl, sym, ap, subst, _∙_}
 use mathlib.Core.List.{List, [], _∷_, _++_}
 use native.Mathlib.Numerals.{add-one}
 use native.Mathlib.Omega.{arith}
-use lib.ListN.{length, set, take, replicate, length-set, length-replicate}
+use lib.ListN.{length, set, take, replicate, length-set, length-map, length-replicate}
 use lib.Seq.{take-all, take-suc-set, length-take-le}
 use Rattle.rules.specs.declared.Written.{Written}
 use Rattle.segment.specs.declared.header.Heading.{Heading}
@@ -13,13 +13,14 @@ use Rattle.segment.specs.Format.{v3}
 use Rattle.segment.specs.Keys.{sortBy}
 use Rattle.segment.specs.Meaning.{countFrom}
 use Rattle.segment.specs.Tidy.{formOf, rowLeq, tidyForm}
+use Rattle.form.proofs.Counted.{counted-long}
 use Rattle.order.specs.declared.Kind.{Kind}
 use Rattle.order.specs.Items.{Item}
 use Rattle.order.specs.Order.{Each, itemLeq}
 use Rattle.order.proofs.Each.{each-counted}
 use Rattle.order.proofs.Arranged.{each-sort}
 use Rattle.order.proofs.Sorting.{sort-length}
-use Rattle.lines.specs.Lines.{itemRows, Lines, Line}
+use Rattle.lines.specs.Lines.{itemRow, itemRows, Lines, Line}
 use Rattle.lines.proofs.Rows.{read-lines, rows-sorted}
 use Rattle.emit.specs.Emit.{Wrote}
 use Rattle.arrange.specs.Arrange.{AllLines, itemsForm}
@@ -35,11 +36,6 @@ counted-next : (k n : ℕ) → countFrom k (suc n) ≡ countFrom k n ++ ((k + n)
 unfolding countFrom
 counted-next k zero = let e : k + 0 ≡ k = omega arith in rw e
 counted-next k (suc n) = let e : suc k + n ≡ k + suc n = omega arith in ap (λ (t : List ℕ). k ∷ t) (counted-next (suc k) n ∙ rw e)
-
-counted-long : (k m : ℕ) → length (countFrom k m) ≡ m
-unfolding countFrom
-counted-long k zero = refl
-counted-long k (suc m) = ap suc (counted-long (suc k) m)
 
 pub counting-start : (out : List ℕ) → Counting out 0 out
 unfolding countFrom
@@ -65,7 +61,9 @@ module _ (kind : Kind) (bytes list extents : List ℕ) (n : ℕ) (a : AllLines k
   counted-lines = rw c (each-counted (Line kind bytes list extents) n (a .each))
 
   pub counted-many : length counted ≡ n
-  counted-many = ap length c ∙ counted-long 0 n
+  counted-many =
+      let row = itemRow kind bytes list extents in
+      ap length c ∙ sym (length-map (countFrom 0 n) row) ∙ counted-long row 0 n
 
   pub readable : Each (Item kind bytes list) counted
   readable = read-lines kind bytes list extents counted counted-lines

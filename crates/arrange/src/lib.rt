@@ -44,6 +44,7 @@ fn arrange(
     emit::emit(t, bloom, kind, bytes, list, extents, numbers, out)
 }
 
+// With numbers for 256 items.
 fn arrange_few(
     t: Heading,
     bloom: &[u8],
@@ -73,6 +74,7 @@ fn arrange_few(
     )
 }
 
+// With numbers for as many items as a segment can have.
 fn arrange_many(
     t: Heading,
     bloom: &[u8],

@@ -19,6 +19,7 @@ use Rattle.segment.specs.Meaning.{Row}
 use Rattle.segment.specs.Tidy.{packed, headerFields, recordsBytes, digestBytes, digestSection, lacking, extentBytes, extentTotal, settled, outputAfter}
 use Rattle.lines.specs.declared.Sizes.{Sizes}
 
+-- for each of 65,536 records at most 1,024 bytes of digest and 2^32 extents
 pub record Moderate (bloom count : ℕ) (s : Sizes) : Type 0 where
   pub short : bloom ≤ fileLimit
   pub few : count ≤ recordLimit

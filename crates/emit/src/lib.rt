@@ -20,11 +20,15 @@ use segment::header::Header;
 use segment::header::Heading;
 use segment::record::Record;
 
+// ASLIDX03
 const MAGIC: u64 = 0x3330_5844_494C_5341;
 
 const VERSION: u16 = 3;
 
+// The sizes of the four kinds, as wide as the header's numbers; and the size that the header states.
 const HEADER: u64 = Header::SIZE as u64;
+
+const STATED: u32 = Header::SIZE as u32;
 
 const RECORD: u64 = Record::SIZE as u64;
 
@@ -66,7 +70,7 @@ fn header_for(t: Heading, bloom: u64, count: u64, s: Sizes) -> Header
         magic: MAGIC,
         version: VERSION,
         shard: t.shard,
-        header_size: 112,
+        header_size: STATED,
         snapshot_min: t.snapshot_min,
         snapshot_max: t.snapshot_max,
         record_count: count,
@@ -183,6 +187,7 @@ fn put_form(
 }
 
 // The form of the items in the order of their numbers, if it keeps to the limit and fits; else the output is left alone.
+// Bloom bytes that pass the limit by themselves are refused first, so that no sum below overflows.
 pub fn emit(
     t: Heading,
     bloom: &[u8],

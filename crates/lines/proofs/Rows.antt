@@ -166,16 +166,18 @@ module _ (kind : Kind) (bytes list extents : List ℕ) (k : ℕ) (l : Line kind 
 
 -- ---- what rows come to
 
+-- what follows from what holds of an element, of each of them
+each-then : (P Q : ℕ → Type 0) → ((k : ℕ) → P k → Q k) → (ks : List ℕ) → Each P ks → Each Q ks
+unfolding Each
+each-then P Q f [] e = tt
+each-then P Q f (k ∷ ks) e = (f k (e .0), each-then P Q f ks (e .1))
+
 module _ (kind : Kind) (bytes list extents : List ℕ) where
   pub counted-lines : (numbers : List ℕ) → Lines kind bytes list extents numbers → Each (Counted kind bytes list) numbers
-  unfolding Each
-  counted-lines [] l = tt
-  counted-lines (k ∷ ks) l = (l .0 .counted, counted-lines ks (l .1))
+  counted-lines numbers l = each-then (Line kind bytes list extents) (Counted kind bytes list) (λ k h. h .counted) numbers l
 
   pub read-lines : (numbers : List ℕ) → Lines kind bytes list extents numbers → Each (Item kind bytes list) numbers
-  unfolding Each
-  read-lines [] l = tt
-  read-lines (k ∷ ks) l = (l .0 .counted .item, read-lines ks (l .1))
+  read-lines numbers l = each-then (Line kind bytes list extents) (Item kind bytes list) (λ k h. h .counted .item) numbers l
 
   pub digests-come : (numbers : List ℕ) → Lines kind bytes list extents numbers
       → length (digestBytes (itemRows kind bytes list extents numbers)) ≡ measured kind bytes list numbers .digests

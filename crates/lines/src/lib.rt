@@ -81,6 +81,7 @@ pub fn extent_of(kind: Kind, bytes: &[u8], extents: &[u64], first: usize, j: usi
     }
 }
 
+// The lengths of some extents of the list, added up.
 fn sum_listed(extents: &[u64], first: usize, count: usize) -> u64
     requires { ⌜ 3 * (first + count) ≤ length (now extents) ⌝ }
     requires { ⌜ sumLengths (extentsFrom (now extents) first count) < 18446744073709551616 ⌝ }

@@ -29,6 +29,7 @@ pub fn copy_bytes(from: &[u8], at: usize, out: &mut [u8])
     }
 }
 
+// Zeros over all of a stretch.
 fn clear(out: &mut [u8])
     ensures { λ _. ⌜ now (out .exit) ≡ replicate (length (now (out .entry))) 0 ⌝ }
 {
