@@ -1,0 +1,99 @@
+"""Ways to get answers: from asl.py here, from a driver program, from a listing program.
+
+An asker takes a list of cases and gives a list of answers. In the place of an answer that never
+came stands a string that says why.
+"""
+
+import io
+import subprocess
+
+from case import Answer, answer_of
+from protocol import Ended, Reader, encode_case
+
+BATCH_CASES, BATCH_BYTES = 500, 16_000_000
+# A hung driver fails the run; a slow one has this long for a batch.
+BATCH_SECONDS = 600
+# Each case that ends the driver costs a new start, so a hopeless driver is given up early.
+MOST_ENDINGS = 5
+
+
+def ask_here(cases):
+    """Asks asl.py, or whatever stands patched in its place."""
+    answers = []
+    for case in cases:
+        try:
+            answers.append(answer_of(case))
+        except Exception as problem:  # a wrong program may do anything
+            answers.append(f"no answer: {problem!r}")
+    return answers
+
+
+def batches(cases):
+    """The cases in order, in lists that are neither long nor great."""
+    batch, size = [], 0
+    for case in cases:
+        batch.append(case)
+        size += case.size()
+        if len(batch) >= BATCH_CASES or size >= BATCH_BYTES:
+            yield batch
+            batch, size = [], 0
+    if batch:
+        yield batch
+
+
+class Driver:
+    """A driver command, and a listing command or None."""
+
+    def __init__(self, command, listing=None):
+        self.command = command
+        self.listing = listing
+        self.endings = 0
+
+    def __call__(self, cases):
+        listed = [case for case in cases if case.kind == "list"]
+        asked = [case for case in cases if case.kind != "list"]
+        listings = iter([self.list(case) for case in listed])
+        answers = iter(self.ask(asked))
+        return [next(listings if case.kind == "list" else answers) for case in cases]
+
+    def ask(self, cases):
+        answers = []
+        for batch in batches(cases):
+            answered = self.ask_batch(batch)
+            while len(answered) < len(batch):
+                answered += self.ask_batch(batch[len(answered):])
+            answers += answered
+        return answers
+
+    def ask_batch(self, batch):
+        """The answers to the first cases, at least one: the one at which the driver ended has a
+        string for an answer, and the cases after it are still to be asked."""
+        if self.endings >= MOST_ENDINGS:
+            return ["no answer: the driver was given up"] * len(batch)
+        sent = b"".join(encode_case(case) for case in batch)
+        try:
+            done = subprocess.run(self.command, input=sent, stdout=subprocess.PIPE,
+                                  timeout=BATCH_SECONDS, check=False)
+        except subprocess.TimeoutExpired:
+            self.endings = MOST_ENDINGS
+            return ["no answer: the driver took too long"] * len(batch)
+        reader = Reader(io.BytesIO(done.stdout))
+        answers = []
+        try:
+            for _ in batch:
+                answers.append(reader.answer())
+        except Ended:
+            self.endings += 1
+            return answers + [f"no answer: the driver ended with status {done.returncode}"]
+        if done.returncode != 0 or reader.stream.read(1):
+            self.endings += 1
+            answers[-1] = f"more than the answers, or status {done.returncode}"
+        return answers
+
+    def list(self, case):
+        try:
+            done = subprocess.run(self.listing, input=case.segment, stdout=subprocess.PIPE,
+                                  timeout=BATCH_SECONDS, check=False)
+        except subprocess.TimeoutExpired:
+            return "no answer: the listing program took too long"
+        return Answer(0, 0, (), done.stdout)

@@ -1,0 +1,347 @@
+"""The cases: first the systematic ones, then as many random ones as are asked for.
+
+Every case comes from the random.Random that is handed in, so a seed settles them all.
+"""
+
+from collections import namedtuple
+from itertools import cycle
+
+import asl
+import combined
+import large
+import small
+from case import Case
+from damages import DAMAGES, RECORD_DAMAGES, damage, edges
+from fields import (EXTENT_FIELDS, FOOTER_FIELDS, HEADER_FIELDS, RECORD_FIELDS, Places, get, put,
+                    seal)
+from faults import spoil
+from shapes import Lent, any_meaning, broken_tables, lay_out, lend
+
+SEGMENT_KINDS = ("check", "look up", "tidy")
+
+# A whole segment with what questions about it need: the keys that stand in it and the length of
+# its tidy form.
+Subject = namedtuple("Subject", "name table segment keys tidy_length")
+
+
+def subject_of(name, table, segment):
+    examined = asl.examine(asl.lengths_of(table), segment)
+    room = 136 + len(examined.bloom) + 16 * sum(item.extent_count for item in examined.items)
+    room += 48 * len(examined.items)
+    digests = sum(len(item.digest) for item in examined.items)
+    keys = [(item.hash_id, item.digest) for item in examined.items]
+    return Subject(name, table, segment, keys, room + digests + -digests % 8)
+
+
+def small_subjects():
+    return [subject_of(name, small.TABLE, make()) for name, make in small.SMALL_FILES.items()]
+
+
+# Inputs besides the segment -------------------------------------------------------------------
+
+def any_output(rng, needed):
+    """An output of random bytes with a length around the needed one."""
+    length = rng.choice((needed, needed, needed, needed - 1, needed + 1, needed + 100, 0,
+                         rng.randint(0, needed)))
+    return rng.randbytes(max(length, 0))
+
+
+def neighbour(rng, digest):
+    """The digest's neighbour in the order of bytes, or one that differs in a single bit."""
+    changed = bytearray(digest)
+    if rng.random() < 0.5:
+        changed[rng.randrange(len(changed))] ^= 1 << rng.randrange(8)
+        return bytes(changed)
+    step = rng.choice((1, -1))
+    number = (int.from_bytes(digest, "big") + step) % (1 << (8 * len(digest)))
+    return number.to_bytes(len(digest), "big")
+
+
+def any_key(rng, subject):
+    """Mostly a key that stands there or its neighbour; sometimes one of a wrong length or of an
+    unknown hash id."""
+    pair = 2 * rng.randrange(len(subject.table) // 2)
+    stranger = subject.table[pair], rng.randbytes(subject.table[pair + 1])
+    hash_id, digest = rng.choice(subject.keys) if subject.keys else stranger
+    choice = rng.random()
+    if choice < 0.45:
+        return hash_id, digest
+    if choice < 0.7:
+        return hash_id, neighbour(rng, digest)
+    if choice < 0.8:
+        return stranger
+    if choice < 0.85:
+        return subject.table[pair], digest
+    if choice < 0.9:
+        return (hash_id + rng.choice((1, 2**31, 2**32 - 1))) % 2**32, digest
+    return hash_id, rng.choice((digest[:-1], digest + b"\0", b"", digest * 2, digest[:1]))
+
+
+def ask(rng, kind, subject, segment, name, table=None):
+    """A case of a service that is lent a segment."""
+    case = Case(kind, f"{subject.name}: {name}", table=subject.table if table is None else table,
+                segment=segment)
+    if kind == "look up":
+        case.hash_id, case.digest = any_key(rng, subject)
+    elif kind == "tidy":
+        case.out = any_output(rng, subject.tidy_length)
+    return case
+
+
+def flat(items):
+    return [number for item in items for number in item]
+
+
+def write_case(rng, lent, name, needed=None):
+    case = Case("write", name, table=lent.table, heading=lent.heading, bloom=lent.bloom,
+                entries=flat(lent.entries), digests=lent.digests, extents=flat(lent.extents))
+    if needed is None:
+        needed = needed_for(case)
+    case.out = any_output(rng, needed)
+    return case
+
+
+def needed_for(case):
+    """The result's length if the arguments are good, else some length; never a great one."""
+    number, _, length = asl.write(case.table, case.heading, case.bloom, case.entries,
+                                  case.digests, case.extents, bytearray(1 << 20))
+    return length if number == 0 else 300
+
+
+# Systematic cases over segments ---------------------------------------------------------------
+
+def every_truncation(rng, subjects):
+    for subject in subjects:
+        for size in range(len(subject.segment)):
+            for kind in SEGMENT_KINDS:
+                yield ask(rng, kind, subject, subject.segment[:size], f"first {size} bytes")
+        for kind in SEGMENT_KINDS:
+            for more in (1, 8, 16):
+                yield ask(rng, kind, subject, subject.segment + bytes(more), f"{more} more")
+
+
+def every_byte(rng, subjects):
+    """Every single byte at several values, the checksum left and made right."""
+    kinds = cycle(SEGMENT_KINDS)
+    for subject in subjects:
+        for place, old in enumerate(subject.segment):
+            for value in sorted({0, 1, 2, 0x80, 0xFF, old ^ 1} - {old}):
+                segment = bytearray(subject.segment)
+                segment[place] = value
+                name = f"byte {place} {old} -> {value}"
+                yield ask(rng, next(kinds), subject, bytes(segment), name + ", checksum left")
+                seal(segment)
+                yield ask(rng, next(kinds), subject, bytes(segment), name + ", checksum right")
+
+
+def structures(segment):
+    """Every structure of a whole segment: its name, its place and its fields."""
+    places = Places(segment)
+    yield "header", 0, HEADER_FIELDS
+    for number, place in enumerate(places.records):
+        yield f"record {number}", place, RECORD_FIELDS
+    for number, place in enumerate(places.extents):
+        yield f"extent {number}", place, EXTENT_FIELDS
+    yield "footer", places.footer, FOOTER_FIELDS
+
+
+def every_field(rng, subjects):
+    """Every field of every structure at its edges."""
+    kinds = cycle(SEGMENT_KINDS)
+    for subject in subjects:
+        for owner, start, fields in structures(subject.segment):
+            for field, place_and_size in fields.items():
+                old = get(subject.segment, start, place_and_size)
+                for new in edges(old, place_and_size[1]):
+                    segment = bytearray(subject.segment)
+                    put(segment, start, place_and_size, new)
+                    if rng.random() < 0.9:
+                        seal(segment)
+                    name = f"{owner} {field} {old} -> {new}"
+                    yield ask(rng, next(kinds), subject, bytes(segment), name)
+
+
+def every_table(rng, subjects):
+    """Every broken table to every service, over whole and refused segments and bad keys."""
+    for subject in subjects:
+        for name, table in broken_tables(rng, subject.table):
+            for kind in SEGMENT_KINDS:
+                yield ask(rng, kind, subject, subject.segment, name, table=table)
+                yield ask(rng, kind, subject, subject.segment[:100], name + ", cut", table=table)
+
+
+def every_room(rng, subjects):
+    for subject in subjects:
+        for room in range(subject.tidy_length + 3):
+            yield Case("tidy", f"{subject.name}: room {room} for {subject.tidy_length}",
+                       table=subject.table, segment=subject.segment, out=rng.randbytes(room))
+
+
+# Systematic cases over write's arguments ------------------------------------------------------
+
+def small_lent():
+    """The records of small.mixed() as write's arguments."""
+    digests = bytes(range(32)) + small.KEY_7D
+    entries = [[1, 0, 32, 0, 1, 8, 0, 1, 2], [7, 32, 4, 1, 1, 0, 1, 0, 0],
+               [7, 4, 4, 0, 0, 0, 0, 0, 1], [7, 3, 4, 0, 0, 0, 0, 0, 3]]
+    extents = [[1, 0, 0], [2, 4_294_967_295, 1], [3, 64, 3], [4, 4_294_967_295, 2]]
+    return Lent(list(small.TABLE), small.HEADING, bytes(8), entries, digests, extents)
+
+
+def every_number_lent(rng):
+    """Every number of every entry and extent at its edges and too wide."""
+    for which in ("entries", "extents"):
+        for number, item in enumerate(getattr(small_lent(), which)):
+            for field, old in enumerate(item):
+                for new in edges(old, 8):
+                    lent = small_lent()
+                    getattr(lent, which)[number][field] = new
+                    yield write_case(rng, lent, f"{which} {number}.{field} {old} -> {new}")
+
+
+def wide_lengths(rng):
+    """Digest lengths that are right modulo 2^16 only, with so many digest bytes lent that they
+    do not pass the end."""
+    for length in (4, 65_535, 65_536, 65_540, 70_000, 70_001):
+        lent = small_lent()
+        lent.digests += bytes(70_000 - len(lent.digests))
+        lent.entries[1][1:3] = [0, length]
+        yield write_case(rng, lent, f"digest length {length} of 70,000 lent bytes")
+
+
+def every_ending(rng):
+    """Lists with every unfinished last item, and shorter lists, and every bloom length."""
+    whole = write_case(rng, small_lent(), "")
+    for which in ("table", "entries", "extents", "digests", "bloom"):
+        for size in range(len(getattr(whole, which)) + 1):
+            case = write_case(rng, small_lent(), f"{which} cut to {size}")
+            setattr(case, which, getattr(whole, which)[:size])
+            yield case
+    for more in range(1, 12):
+        case = write_case(rng, small_lent(), f"{more} numbers of an entry more")
+        case.entries = case.entries + [2**64 - 1] * more
+        yield case
+
+
+def every_room_for_write(rng):
+    needed = needed_for(write_case(rng, small_lent(), ""))
+    for room in range(needed + 3):
+        case = write_case(rng, small_lent(), f"room {room} for {needed}")
+        case.out = rng.randbytes(room)
+        yield case
+
+
+def every_table_for_write(rng):
+    for name, table in broken_tables(rng, small.TABLE):
+        for bloom in (b"", b"1"):
+            lent = small_lent()
+            lent.table, lent.bloom = table, bloom
+            yield write_case(rng, lent, name)
+
+
+# The listing ----------------------------------------------------------------------------------
+
+def listing_cases(rng, count):
+    for subject in small_subjects():
+        yield Case("list", subject.name, segment=subject.segment)
+    for size in (0, 135, 65_535, 65_536, 65_537, 70_000):
+        yield Case("list", f"{size} zeros", segment=bytes(size))
+    for size in (65_528, 65_536, 65_544):
+        yield Case("list", f"a whole segment of {size} bytes",
+                   segment=small.in_order([], bloom=bytes(size - 136)))
+    for _ in range(count):
+        meaning = any_meaning(rng, table=small.TABLE)
+        segment, name = lay_out(rng, meaning), "whole"
+        if rng.random() < 0.5:
+            segment, name = damage(rng, small.TABLE, segment, 1, DAMAGES, rng.random() < 0.9)
+        yield Case("list", name, segment=segment)
+
+
+# Random cases ---------------------------------------------------------------------------------
+
+def other_table(rng, table):
+    """A table that keeps its rule but may not be the segment's: a pair dropped, a length
+    changed, the pairs in another order, or pairs added."""
+    pairs = list(zip(table[0::2], table[1::2]))
+    rng.shuffle(pairs)
+    choice = rng.randrange(4)
+    if choice == 0 and len(pairs) > 1:
+        pairs.pop()
+    elif choice == 1:
+        hash_id, length = pairs[0]
+        pairs[0] = hash_id, length % 1_024 + 1
+    elif choice == 2 and len(pairs) < 16:
+        known = {hash_id for hash_id, _ in pairs}
+        pairs.append((next(i for i in range(17) if i not in known), rng.randint(1, 1_024)))
+    return flat(pairs)
+
+
+def any_segment_case(rng, subject):
+    """A random question about the whole segment, or about a damaged one."""
+    kind = rng.choice(SEGMENT_KINDS)
+    segment, name, table = subject.segment, "whole", subject.table
+    if rng.random() < 0.75:
+        damages = DAMAGES if rng.random() < 0.5 else RECORD_DAMAGES
+        segment, name = damage(rng, subject.table, segment, rng.choice((1, 1, 2, 3, 5)), damages,
+                               rng.random() < 0.9)
+    if rng.random() < 0.03:
+        broken, table = rng.choice(broken_tables(rng, subject.table))
+        name += "; " + broken
+    elif rng.random() < 0.05:
+        table = other_table(rng, subject.table)
+        name += "; other table"
+    return ask(rng, kind, subject, segment, name, table=table)
+
+
+def any_unaligned_segment(rng, meaning):
+    """A layout that is right but for a section's size that is no multiple of 8."""
+    if rng.random() < 0.5:
+        return lay_out(rng, meaning, padded=False), "digests size no multiple of 8"
+    meaning = meaning._replace(bloom=rng.randbytes(rng.choice((1, 2, 4, 7, 12, 15))))
+    return lay_out(rng, meaning), "bloom size no multiple of 8"
+
+
+def random_cases(rng, count):
+    """Groups of cases that share a meaning, so that making segments does not take all time."""
+    done = 0
+    while done < count:
+        meaning = any_meaning(rng)
+        subject = subject_of(f"{len(meaning.records)} records", meaning.table,
+                             lay_out(rng, meaning))
+        group = [any_segment_case(rng, subject) for _ in range(7)]
+        if rng.random() < 0.1:
+            segment, name = any_unaligned_segment(rng, meaning)
+            group.append(ask(rng, rng.choice(SEGMENT_KINDS), subject, segment, name))
+        for how_many in (0, 1, 1, 2, 4):
+            lent = lend(rng, meaning)
+            name = f"{len(meaning.records)} records: {spoil(rng, lent, how_many)}"
+            group.append(write_case(rng, lent, name, needed=subject.tidy_length))
+        yield from group[:count - done]
+        done += len(group)
+
+
+# All ------------------------------------------------------------------------------------------
+
+def systematic_cases(rng):
+    subjects = small_subjects()
+    yield from every_truncation(rng, subjects)
+    yield from every_byte(rng, subjects)
+    yield from every_field(rng, subjects[1:])
+    yield from every_table(rng, subjects)
+    yield from every_room(rng, subjects)
+    yield from every_number_lent(rng)
+    yield from wide_lengths(rng)
+    yield from every_ending(rng)
+    yield from every_room_for_write(rng)
+    yield from every_table_for_write(rng)
+    yield from combined.combined_cases(rng)
+
+
+def all_cases(rng, count, long_run):
+    """Systematic cases, large ones, `count` random ones and some listings."""
+    yield from systematic_cases(rng)
+    yield from large.large_cases(rng)
+    if long_run:
+        yield from large.long_cases(rng)
+    yield from random_cases(rng, count)
+    yield from listing_cases(rng, max(count // 50, 20))

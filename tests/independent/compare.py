@@ -1,0 +1,178 @@
+"""Compares a program's answers with asl.py's, case by case: number, place, values and every byte
+of every output.
+
+    compare.py [--cases N] [--seed S] [--long] [--listing COMMAND] DRIVER-COMMAND...
+    compare.py [--cases N] [--seed S] [--long] --self
+    compare.py [--cases N] [--seed S] --wrong NAME
+
+N is the number of random cases; they come besides the systematic ones. --self asks asl.py in
+place of a driver, --wrong a program of wrong.py, to show that the comparison can fail.
+"""
+
+import argparse
+import random
+import shlex
+import sys
+import time
+from collections import Counter
+
+import fixtures
+import wrong
+from askers import Driver, ask_here, batches
+from case import KINDS, Answer, answer_of
+from cases import all_cases
+from properties import property_problems
+from shapes import any_meaning
+
+# Which answers each service can give; all of them have to be met in a run.
+POSSIBLE = {
+    "check": [*range(13), 14],
+    "look up": [*range(13), 14, 17],
+    "tidy": [*range(15), 16],
+    "write": [0, 5, 7, 8, 9, 10, 12, 13, 14, 15, 16],
+}
+MOST_SHOWN = 5
+SHORT = 600
+
+
+# Showing a difference -------------------------------------------------------------------------
+
+def shown_bytes(data):
+    return f"{len(data)} bytes: {data.hex() if len(data) <= SHORT else '(long)'}"
+
+
+def shown_numbers(numbers):
+    return " ".join(map(str, numbers)) if len(numbers) <= SHORT else f"{len(numbers)} numbers"
+
+
+def shown_inputs(case):
+    yield "table", shown_numbers(case.table)
+    if case.kind == "write":
+        yield "heading", shown_numbers(case.heading)
+        yield "bloom", shown_bytes(case.bloom)
+        yield "entries", shown_numbers(case.entries)
+        yield "digests", shown_bytes(case.digests)
+        yield "extents", shown_numbers(case.extents)
+    else:
+        yield "segment", shown_bytes(case.segment)
+    if case.kind == "look up":
+        yield "key", f"{case.hash_id} {case.digest.hex()}"
+    if case.kind in ("tidy", "write"):
+        yield "output before", shown_bytes(case.out)
+
+
+def shown_answer(answer, case):
+    if not isinstance(answer, Answer):
+        return answer
+    if case.kind == "list":
+        return answer.out[:SHORT].decode(errors="replace")
+    verdict = f"refused {answer.number} at {answer.place}" if answer.number else "accepted"
+    out = "unchanged" if answer.out == case.out else shown_bytes(answer.out)
+    return f"{verdict}, values {list(answer.values)}, output {out}"
+
+
+def show(case, expected, answer):
+    print(f"DIFFERENCE: {case.kind}, {case.name}")
+    for name, text in shown_inputs(case):
+        print(f"    {name}: {text}")
+    print(f"    asl.py: {shown_answer(expected, case)}")
+    print(f"    answer: {shown_answer(answer, case)}")
+    if isinstance(answer, Answer) and answer.out != expected.out:
+        pairs = zip(answer.out, expected.out)
+        first = next((i for i, (one, other) in enumerate(pairs) if one != other), "its end")
+        print(f"    the outputs differ first at {first}")
+
+
+# Counting -------------------------------------------------------------------------------------
+
+class Tally:
+    def __init__(self, quiet=False):
+        self.quiet = quiet
+        self.passed = 0
+        self.failed = 0
+        self.expected = Counter()
+
+    def note(self, good, explain):
+        """Counts one comparison; the first few bad ones are explained."""
+        if good:
+            self.passed += 1
+            return
+        self.failed += 1
+        if self.failed <= MOST_SHOWN and not self.quiet:
+            explain()
+
+    def compare(self, cases, expected, answers):
+        for case, right, answer in zip(cases, expected, answers, strict=True):
+            self.expected[case.kind, right.number] += 1
+            self.note(answer == right, lambda: show(case, right, answer))
+
+    def require_all_numbers(self):
+        for kind, numbers in POSSIBLE.items():
+            for number in numbers:
+                self.note(self.expected[kind, number] > 0, lambda: print(
+                    f"NEVER EXPECTED: refusal {number} from {kind}"))
+
+    def print_counts(self):
+        for kind in KINDS:
+            numbers = {number: count for (owner, number), count in sorted(self.expected.items())
+                       if owner == kind}
+            by_number = " ".join(f"{number}:{count}" for number, count in numbers.items())
+            print(f"{kind}: {sum(numbers.values())} cases, by number {by_number}")
+
+
+# The run --------------------------------------------------------------------------------------
+
+def compare_all(ask, seed, count, long_run, with_listing, tally):
+    rng = random.Random(seed)
+    cases = (case for source in (fixtures.cases(), all_cases(rng, count, long_run))
+             for case in source if with_listing or case.kind != "list")
+    for batch in batches(cases):
+        tally.compare(batch, [answer_of(case) for case in batch], ask(batch))
+    tally.require_all_numbers()
+    meanings = [any_meaning(rng) for _ in range(max(count // 100, 20))]
+    tried = property_problems(rng, ask, meanings)
+    for meaning, problem in tried:
+        tally.note(problem is None, lambda: print(f"PROPERTY BROKEN: {problem}; {meaning}"))
+    return len(tried)
+
+
+def parse(argv):
+    parser = argparse.ArgumentParser(description=__doc__,
+                                     formatter_class=argparse.RawDescriptionHelpFormatter)
+    parser.add_argument("--cases", type=int, default=10_000)
+    parser.add_argument("--seed", type=int, default=None)
+    parser.add_argument("--long", action="store_true")
+    parser.add_argument("--listing", default=None)
+    parser.add_argument("--self", dest="itself", action="store_true")
+    parser.add_argument("--wrong", choices=sorted(wrong.PROGRAMS))
+    parser.add_argument("command", nargs=argparse.REMAINDER)
+    args = parser.parse_args(argv)
+    if bool(args.command) + args.itself + bool(args.wrong) != 1:
+        parser.error("give a driver command, or --self, or --wrong NAME")
+    return args
+
+
+def main(argv):
+    args = parse(argv)
+    seed = random.SystemRandom().randrange(2**32) if args.seed is None else args.seed
+    print(f"seed {seed}", flush=True)
+    ask, with_listing = ask_here, True
+    if args.wrong:
+        ask = wrong.asker(args.wrong)
+    elif args.command:
+        ask = Driver(args.command, shlex.split(args.listing) if args.listing else None)
+        with_listing = args.listing is not None
+    if not with_listing:
+        print("no listing program was given: the listing is not compared")
+    tally, began = Tally(), time.monotonic()
+    tried = compare_all(ask, seed, args.cases, args.long, with_listing, tally)
+    tally.print_counts()
+    seconds = time.monotonic() - began
+    print(f"properties: {tried} tried; {seconds:.1f} s,"
+          f" {(tally.passed + tally.failed) / seconds:.0f} comparisons a second")
+    print(f"{tally.passed} passed, {tally.failed} failed")
+    return 1 if tally.failed else 0
+
+
+if __name__ == "__main__":
+    sys.exit(main(sys.argv[1:]))

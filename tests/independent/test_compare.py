@@ -1,0 +1,164 @@
+"""The comparison notices wrong programs, wrong properties, broken drivers and missing numbers;
+and has nothing to say against the right one."""
+
+import io
+import random
+import sys
+import unittest
+from contextlib import redirect_stdout
+from pathlib import Path
+
+import fixtures
+import large
+import testing
+import wrong
+from askers import Driver, ask_here
+from case import Answer, answer_of
+from cases import listing_cases, random_cases, systematic_cases
+from compare import MOST_SHOWN, Tally
+from properties import property_problems
+from protocol import Reader, encode_answer, encode_case
+from shapes import any_meaning
+
+SEED = 20_240
+HERE = Path(__file__).resolve().parent
+ASL_DRIVER = [sys.executable, str(HERE / "asl_driver.py")]
+
+
+def some_cases():
+    """Enough to show each wrong program: every seventh systematic case and some of the rest."""
+    rng = random.Random(SEED)
+    return (fixtures.cases() + list(systematic_cases(rng))[::7] + list(random_cases(rng, 1_200))
+            + list(listing_cases(rng, 20)) + list(large.size_cases(rng)))
+
+
+CASES = some_cases()
+EXPECTED = [answer_of(case) for case in CASES]
+DRIVER_CASES = [case for case in CASES if case.kind != "list" and case.size() < 10_000][::10]
+
+
+def tally_of(ask, cases=CASES, expected=EXPECTED):
+    tally = Tally(quiet=True)
+    tally.compare(cases, expected, ask(cases))
+    return tally
+
+
+def driver_tally(command):
+    cases = DRIVER_CASES
+    return tally_of(Driver(command), cases, [answer_of(case) for case in cases])
+
+
+def small_property_problems(ask):
+    """The properties over meanings of few records, since these tests are many."""
+    rng = random.Random(SEED)
+    meanings = [any_meaning(rng, record_count=count % 8) for count in range(40)]
+    return property_problems(rng, ask, meanings)
+
+
+class WrongPrograms(unittest.TestCase):
+    """One test for each program is added below."""
+
+
+def noticed(name):
+    def test(self):
+        tally = tally_of(wrong.asker(name))
+        self.assertGreater(tally.failed, 0, f"{name}: not noticed in {len(CASES)} cases")
+        self.assertGreater(tally.passed, tally.failed, f"{name}: not so wrong as this")
+    return test
+
+
+for program in wrong.PROGRAMS:
+    setattr(WrongPrograms, "test_" + program.replace(" ", "_"), noticed(program))
+
+
+class RightProgram(unittest.TestCase):
+    def test_itself(self):
+        self.assertEqual(tally_of(ask_here).failed, 0)
+
+    def test_through_a_driver(self):
+        tally = driver_tally(ASL_DRIVER)
+        self.assertEqual((tally.passed, tally.failed), (len(DRIVER_CASES), 0))
+
+    def test_properties(self):
+        tried = small_property_problems(ask_here)
+        self.assertGreater(len(tried), 500)
+        self.assertEqual([problem for _, problem in tried if problem], [])
+
+
+class BrokenProperties(unittest.TestCase):
+    """The properties notice these with no help from asl.py's answers."""
+
+    def problems(self, name):
+        tried = small_property_problems(wrong.asker(name))
+        return [problem for _, problem in tried if problem]
+
+    def test_tidy_copies(self):
+        self.assertTrue(self.problems("tidy copies"))
+
+    def test_tidy_keeps_digest_places(self):
+        self.assertTrue(self.problems("tidy keeps digest places"))
+
+    def test_total_0_is_absent(self):
+        self.assertTrue(self.problems("total 0 is absent"))
+
+    def test_gone_left_out(self):
+        self.assertTrue(self.problems("gone left out of maximum"))
+
+
+class BrokenDrivers(unittest.TestCase):
+    def test_one_that_ends_at_once(self):
+        tally = driver_tally([sys.executable, "-c", "raise SystemExit(3)"])
+        self.assertEqual(tally.failed, len(DRIVER_CASES))
+
+    def test_one_that_says_too_much(self):
+        script = "import asl_driver, sys; asl_driver.main(); sys.stdout.buffer.write(b'!')"
+        command = [sys.executable, "-c", f"import sys; sys.path.insert(0, {str(HERE)!r}); {script}"]
+        self.assertGreater(driver_tally(command).failed, 0)
+
+    def test_one_that_ends_amid_its_answers(self):
+        """The case at which it ended fails, and those after it are asked again."""
+        script = ("import sys; from protocol import Reader, encode_answer;"
+                  "from case import answer_of; reader = Reader(sys.stdin.buffer);"
+                  "cases = iter(reader.case, None);"
+                  "[sys.exit(1) if case.kind == 'write' and case.bloom == b'odd' else "
+                  "sys.stdout.buffer.write(encode_answer(answer_of(case))) for case in cases]")
+        command = [sys.executable, "-c", f"import sys; sys.path.insert(0, {str(HERE)!r}); {script}"]
+        deadly = fixtures.case_of_arguments("deadly", fixtures.write_arguments())
+        deadly.bloom = b"odd"
+        cases = DRIVER_CASES[:10] + [deadly] + DRIVER_CASES[10:20]
+        tally = tally_of(Driver(command), cases, [answer_of(case) for case in cases])
+        self.assertEqual((tally.passed, tally.failed), (20, 1))
+
+
+class Counting(unittest.TestCase):
+    def test_a_number_never_expected(self):
+        tally = Tally(quiet=True)
+        few = [case for case, answer in zip(CASES, EXPECTED) if answer.number != 12]
+        tally.compare(few, [answer_of(case) for case in few], ask_here(few))
+        self.assertEqual(tally.failed, 0)
+        tally.require_all_numbers()
+        self.assertEqual(tally.failed, 4)  # one for each service
+
+    def test_differences_are_shown(self):
+        shown = io.StringIO()
+        with redirect_stdout(shown):
+            Tally().compare(CASES, EXPECTED, ["nothing"] * len(CASES))
+        self.assertEqual(shown.getvalue().count("DIFFERENCE"), MOST_SHOWN)
+        self.assertIn(CASES[0].name, shown.getvalue())
+
+
+class Protocol(unittest.TestCase):
+    def test_cases_come_back(self):
+        sent = b"".join(encode_case(case) for case in DRIVER_CASES)
+        reader = Reader(io.BytesIO(sent))
+        for case in DRIVER_CASES:
+            self.assertEqual(encode_case(reader.case()), encode_case(case))
+        self.assertIsNone(reader.case())
+
+    def test_answers_come_back(self):
+        answer = Answer(10, 2**64 - 1, (1, 2, 3), b"out")
+        self.assertEqual(Reader(io.BytesIO(encode_answer(answer))).answer(), answer)
+
+
+if __name__ == "__main__":
+    testing.main()
