@@ -10,3 +10,4 @@ pub mod Requests
 pub mod Writing
 pub mod Flat
 pub mod Asking
+pub mod Answering

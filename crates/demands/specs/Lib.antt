@@ -4,3 +4,4 @@ pub mod LookUps
 pub mod Tidying
 pub mod Writing
 pub mod Asking
+pub mod Answering
