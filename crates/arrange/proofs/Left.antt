@@ -10,8 +10,7 @@ use Rattle.rules.specs.declared.Verdict.the-variants.{Accepted, Refused}
 use Rattle.rules.specs.declared.Written.{Written}
 use Rattle.rules.specs.declared.Written.the-variants.{Refused as NotWritten}
 use Rattle.segment.specs.Tidy.{settled, outputAfter, outcome}
-use Rattle.emit.specs.Emit.{Wrote}
-use Rattle.arrange.specs.Left.{Left}
+use Rattle.emit.specs.Emit.{Left, Wrote}
 
 module _ (v : Verdict) (form out : List ℕ) where
   pub left-refused : (x : Refusal) → v ≡ Refused x → Left v form out out (NotWritten x)

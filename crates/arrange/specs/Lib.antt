@@ -1,2 +1,1 @@
 pub mod Arrange
-pub mod Left

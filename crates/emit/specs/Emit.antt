@@ -3,12 +3,13 @@
 --   headerFor         the header over so many bloom bytes and records that come to some sizes
 --   Plan              a header whose sections are those of rows, in a file of so many bytes
 --   sectionsUnder, bodyUnder   the three sections of rows, and everything before the footer, under such a header
---   Wrote             what is answered and left of a form and an output
+--   Left, Wrote       what write and tidy answer and leave of a form and an output
 -- Assumes nothing: these are definitions.
 use Prim.Native.Nat.{ℕ, _+_, _*_, _≤_}
 use mathlib.Core.Path.{_≡_}
 use mathlib.Core.List.{List, _++_}
 use lib.ListN.{length}
+use Rattle.rules.specs.declared.Verdict.{Verdict}
 use Rattle.rules.specs.declared.Verdict.the-variants.{Accepted}
 use Rattle.rules.specs.declared.Written.{Written}
 use Rattle.segment.specs.declared.header.Header.{Header}
@@ -70,6 +71,11 @@ sectionsUnder h rows =
 unfoldable pub bodyUnder : Header → List ℕ → List Row → List ℕ
 bodyUnder h bloom rows = packed (headerFields h) ++ (bloom ++ sectionsUnder h rows)
 
-pub record Wrote (form out after : List ℕ) (w : Written) : Type 0 where
-  pub answer : w ≡ settled Accepted form (length out)
+-- what is left where a verdict comes before the size: the first refusal and the output as it was, or the form and the bytes that stood after it
+pub record Left (v : Verdict) (form out after : List ℕ) (w : Written) : Type 0 where
+  pub answer : w ≡ settled v form (length out)
   pub output : after ≡ outputAfter w form out
+
+-- and where nothing before the size is refused
+abbrev pub Wrote : List ℕ → List ℕ → List ℕ → Written → Type 0
+Wrote form out after w = Left Accepted form out after w

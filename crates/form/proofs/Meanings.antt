@@ -40,7 +40,7 @@ num-fits n s k b = le-fits n (drop k s) (bytes-drop k s b)
 
 -- ---- extents
 
-extents-counted : (s : List ℕ) (at n : ℕ) → length (extentsAt s at n) ≡ n
+pub extents-counted : (s : List ℕ) (at n : ℕ) → length (extentsAt s at n) ≡ n
 unfolding extentsAt
 extents-counted s at zero = refl
 extents-counted s at (suc n) = ap suc (extents-counted s (at + 16) n)

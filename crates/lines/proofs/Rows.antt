@@ -1,7 +1,7 @@
 -- An item that may be written, and its row in the meaning: the row's parts are the item's numbers, its record is the row's, items sorted by their
 -- keys are rows sorted by theirs; and each kind's rows are those of the meaning.
 -- Assumes nothing.
-use Prim.Native.Nat.{ℕ, zero, suc, _+_, max}
+use Prim.Native.Nat.{ℕ, max}
 use mathlib.Core.Path.{_≡_, refl, sym, ap, _∙_}
 use mathlib.Core.Bool.{Bool, true, false, cond}
 use mathlib.Core.List.{List, [], _∷_, map}
@@ -20,11 +20,12 @@ use Rattle.segment.specs.Meaning.{gone, Row, rowKey, rowExtents, sourceOf, rowO
 use Rattle.segment.specs.Tidy.{importedOf, domainOf, flagsOf, placeOf, recordFor, digestBytes, extentTotal, largestVisibility, rowLeq}
 use Rattle.segment.specs.Write.{entryNo, entryDigestBytes, extentsFrom, entryRow}
 use Rattle.segment.proofs.Extents.{listed-counted}
+use Rattle.form.proofs.Meanings.{extents-counted}
 use Rattle.order.specs.declared.Kind.{Kind}
 use Rattle.order.specs.declared.Kind.the-variants.{Records, Entries}
 use Rattle.order.specs.Items.{recordSpan, entrySpan, itemHash, itemSpan, itemDigest, itemKey, Item}
 use Rattle.order.specs.Order.{Each, itemLeq}
-use Rattle.lines.specs.Lines.{recordEntry, itemEntry, itemExtents, itemTotal, entryExtents, rowOfEntry, itemRow, itemRows, Counted, Line, Lines, recordOfEntry, measured}
+use Rattle.lines.specs.Lines.{recordEntry, itemEntry, itemExtents, itemTotal, extentsOfEntry, rowOfEntry, itemRow, itemRows, Counted, Line, Lines, recordOfEntry, measured}
 
 -- ---- an item's key is its row's
 
@@ -86,14 +87,9 @@ rows-sorted kind bytes list extents numbers = map-sort (itemRow kind bytes list 
 
 -- ---- an item's extents
 
-extentsAt-length : (s : List ℕ) (at n : ℕ) → length (extentsAt s at n) ≡ n
-unfolding extentsAt
-extentsAt-length s at zero = refl
-extentsAt-length s at (suc n) = ap suc (extentsAt-length s (at + 16) n)
-
 pub extents-length : (kind : Kind) (bytes extents : List ℕ) (first n : ℕ) → length (itemExtents kind bytes extents first n) ≡ n
 unfolding itemExtents
-extents-length (Records at) bytes extents first n = extentsAt-length bytes first n
+extents-length (Records at) bytes extents first n = extents-counted bytes first n
 extents-length Entries bytes extents first n = listed-counted extents first n
 
 pub extents-none : (kind : Kind) (bytes extents : List ℕ) (first : ℕ) → itemExtents kind bytes extents first 0 ≡ []
@@ -108,15 +104,15 @@ module _ (kind : Kind) (bytes list extents : List ℕ) (k : ℕ) (l : Line kind 
   abbrev row : Row
   row = itemRow kind bytes list extents k
 
-  pub row-extents : rowExtents row ≡ entryExtents kind bytes extents e
-  unfolding itemRow rowOfEntry entryExtents
+  pub row-extents : rowExtents row ≡ extentsOfEntry kind bytes extents e
+  unfolding itemRow rowOfEntry extentsOfEntry
   row-extents =
       by-test (eqb (e .gone) 1)
       (λ t. let z : e .«extent_count» ≡ 0 = l .none (eqb-true (e .gone) 1 t) in rw (t, z) (sym (extents-none kind bytes extents (e .«first_extent»))))
       (λ t. rw t)
 
   pub row-count : length (rowExtents row) ≡ e .«extent_count»
-  unfolding entryExtents
+  unfolding extentsOfEntry
   row-count = ap length row-extents ∙ extents-length kind bytes extents (e .«first_extent») (e .«extent_count»)
 
   row-imported : importedOf (sourceOf (e .imported) (e .source)) ≡ e .imported
@@ -201,9 +197,9 @@ module _ (kind : Kind) (bytes list extents : List ℕ) where
 -- ---- each kind's rows are those of the meaning
 
 pub record-row : (s list extents : List ℕ) (h : Header) (k : ℕ) → itemRow (Records (recordsOffset h)) s list extents k ≡ rowNo v3 s h k
-unfolding itemRow rowOfEntry itemEntry recordEntry entryExtents itemExtents rowNo rowOf recordNo digestIn
+unfolding itemRow rowOfEntry itemEntry recordEntry extentsOfEntry itemExtents rowNo rowOf recordNo digestIn
 record-row s list extents h k = refl
 
 pub entry-row : (entries digests extents : List ℕ) (k : ℕ) → itemRow Entries digests entries extents k ≡ entryRow entries digests extents k
-unfolding itemRow rowOfEntry itemEntry entryExtents itemExtents entryRow entryDigestBytes
+unfolding itemRow rowOfEntry itemEntry extentsOfEntry itemExtents entryRow entryDigestBytes
 entry-row entries digests extents k = refl

@@ -65,8 +65,8 @@ itemTotal Entries bytes list extents k =
 
 -- ---- rows
 
-unfoldable pub entryExtents : Kind → List ℕ → List ℕ → Entry → List Extent
-entryExtents kind bytes extents e = itemExtents kind bytes extents (e .«first_extent») (e .«extent_count»)
+unfoldable pub extentsOfEntry : Kind → List ℕ → List ℕ → Entry → List Extent
+extentsOfEntry kind bytes extents e = itemExtents kind bytes extents (e .«first_extent») (e .«extent_count»)
 
 unfoldable pub rowOfEntry : Kind → List ℕ → List ℕ → Entry → Row
 rowOfEntry kind bytes extents e = record {
@@ -74,7 +74,7 @@ rowOfEntry kind bytes extents e = record {
   digest = take (e .«digest_length») (drop (e .«digest_start») bytes);
   visibility = e .visibility;
   source = sourceOf (e .imported) (e .source);
-  state = cond (eqb (e .gone) 1) gone (live (entryExtents kind bytes extents e));
+  state = cond (eqb (e .gone) 1) gone (live (extentsOfEntry kind bytes extents e));
 }
 
 unfoldable pub itemRow : Kind → List ℕ → List ℕ → List ℕ → ℕ → Row
@@ -91,7 +91,7 @@ pub record Narrow (e : Entry) : Type 0 where
   pub digest : e .«digest_length» ≤ 1024
   pub visibility : e .visibility ≤ 1
   pub imported : e .imported ≤ 1
-  pub domain : e .source < 4294967296
+  pub source : e .source < 4294967296
   pub gone : e .gone ≤ 1
   pub extents : e .«extent_count» < 4294967296
 
@@ -105,7 +105,7 @@ pub record Line (kind : Kind) (bytes list extents : List ℕ) (k : ℕ) : Type 0
   pub source : itemEntry kind bytes list k .imported ≡ 0 → itemEntry kind bytes list k .source ≡ 0
   pub none : itemEntry kind bytes list k .gone ≡ 1 → itemEntry kind bytes list k .«extent_count» ≡ 0
   pub held : Held kind bytes extents (itemEntry kind bytes list k .«first_extent») (itemEntry kind bytes list k .«extent_count»)
-  pub total : itemTotal kind bytes list extents k ≡ sumLengths (entryExtents kind bytes extents (itemEntry kind bytes list k))
+  pub total : itemTotal kind bytes list extents k ≡ sumLengths (extentsOfEntry kind bytes extents (itemEntry kind bytes list k))
   pub fits : itemTotal kind bytes list extents k < 18446744073709551616
 
 abbrev pub Lines : Kind → List ℕ → List ℕ → List ℕ → List ℕ → Type 0

@@ -17,16 +17,16 @@ use Rattle.segment.specs.Tidy.{tidyForm, settled, outcome}
 use Rattle.segment.specs.Write.{Request, entryCount, entryNo, entryRow, entryDigestBytes, requestRules, requestVerdict, requested, wrote, writeOf}
 use Rattle.segment.proofs.Pairs.{allowed-small}
 use Rattle.order.specs.declared.Kind.the-variants.{Entries}
-use Rattle.lines.specs.Lines.{itemEntry, itemExtents, Held, itemTotal, entryExtents, rowOfEntry, itemRow, Line}
+use Rattle.lines.specs.Lines.{itemEntry, itemExtents, Held, itemTotal, extentsOfEntry, rowOfEntry, itemRow, Line}
 use Rattle.entries.proofs.Books.{request-book, request-items}
 use Rattle.arrange.specs.Arrange.{AllLines, itemsForm}
-use Rattle.arrange.specs.Left.{Left}
+use Rattle.emit.specs.Emit.{Left}
 use Rattle.arrange.proofs.Left.{left-under, left-outcome}
 use Rattle.seal.specs.Seal.{asked}
 
 module _ (pairs bloom entries digests extents : List ℕ) (g : goodTable pairs ≡ true) (a : requestRules v3 pairs (length bloom) entries digests extents ≡ Accepted) where
   entry-line : (k : ℕ) → k < entryCount entries → Line Entries digests entries extents k
-  unfolding itemEntry Held itemTotal entryExtents itemExtents
+  unfolding itemEntry Held itemTotal extentsOfEntry itemExtents
   entry-line k h =
       let r = request-book v3 pairs entries digests extents (length bloom) .0 a in
       let e = r .each k h in
@@ -39,7 +39,7 @@ module _ (pairs bloom entries digests extents : List ℕ) (g : goodTable pairs �
             digest = s .1;
             visibility = e .marks .visibility;
             imported = e .marks .imported;
-            domain = e .marks .source;
+            source = e .marks .source;
             gone = e .marks .gone;
             extents = e .places .count;
           };
@@ -59,7 +59,7 @@ module _ (pairs bloom entries digests extents : List ℕ) (g : goodTable pairs �
 
 pub same-form : (t : Heading) (bloom entries digests extents : List ℕ)
     → itemsForm t bloom Entries digests entries extents (entryCount entries) ≡ tidyForm v3 (requested (asked t bloom entries digests extents))
-unfolding itemsForm requested itemRow rowOfEntry itemEntry entryExtents itemExtents entryRow entryDigestBytes
+unfolding itemsForm requested itemRow rowOfEntry itemEntry extentsOfEntry itemExtents entryRow entryDigestBytes
 same-form t bloom entries digests extents = refl
 
 -- ---- the table before the rest

@@ -6,7 +6,7 @@ ghost use Rattle.segment.specs.Format.{v3};
 ghost use Rattle.segment.specs.Table.{goodTable};
 ghost use Rattle.segment.specs.Tidy.{tidyForm, outcome};
 ghost use Rattle.segment.specs.Write.{requestRules, requested, writeOf};
-ghost use Rattle.arrange.specs.Left.{Left};
+ghost use Rattle.emit.specs.Emit.{Left};
 ghost use Rattle.seal.specs.Seal.{asked};
 use order::Kind;
 use rules::Refusal;

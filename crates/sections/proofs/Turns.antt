@@ -20,7 +20,7 @@ use Rattle.form.proofs.Sizes.{records-long}
 use Rattle.order.specs.declared.Kind.{Kind}
 use Rattle.order.specs.Items.{itemDigest}
 use Rattle.order.proofs.Each.{each-at}
-use Rattle.lines.specs.Lines.{itemEntry, itemExtents, Held, itemTotal, entryExtents, itemRow, itemRows, Narrow, Line, Lines, recordOfEntry}
+use Rattle.lines.specs.Lines.{itemEntry, itemExtents, Held, itemTotal, extentsOfEntry, itemRow, itemRows, Narrow, Line, Lines, recordOfEntry}
 use Rattle.lines.proofs.Rows.{extents-length, row-extents, row-count, row-digest-length, row-record}
 use Rattle.sections.specs.Sections.{itemDigests}
 use Rattle.sections.proofs.Filling.{Filling, filling-start, filling-done, filling-room, filling-more}
@@ -157,7 +157,7 @@ module _ (kind : Kind) (bytes list extents numbers out₀ : List ℕ) where
           ∙ ap (λ (n : ℕ). 16 * n) (extents-length kind bytes extents (e .«first_extent») (e .«extent_count»))
 
       next-extents : extentBytes (itemRows kind bytes list extents (drop k numbers)) ≡ own ++ extentBytes (itemRows kind bytes list extents (drop (k + 1) numbers))
-      unfolding extentBytes entryExtents
+      unfolding extentBytes extentsOfEntry
       next-extents =
           let i = each-at (Line kind bytes list extents) numbers k ls l in
           rw (drop-cons numbers k 0 l, add-one, q, row-extents kind bytes list extents (getD numbers k 0) i)

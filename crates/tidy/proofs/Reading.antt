@@ -27,9 +27,9 @@ use Rattle.form.proofs.Meanings.{num-fits}
 use Rattle.book.proofs.Book.{segment-book, under-table}
 use Rattle.order.specs.declared.Kind.the-variants.{Records}
 use Rattle.order.specs.Items.{Item, Stands, itemSpan, recordSpan}
-use Rattle.lines.specs.Lines.{recordEntry, itemEntry, itemExtents, Held, itemTotal, entryExtents, rowOfEntry, itemRow, Line}
+use Rattle.lines.specs.Lines.{recordEntry, itemEntry, itemExtents, Held, itemTotal, extentsOfEntry, rowOfEntry, itemRow, Line}
 use Rattle.arrange.specs.Arrange.{AllLines, itemsForm}
-use Rattle.arrange.specs.Left.{Left}
+use Rattle.emit.specs.Emit.{Left}
 use Rattle.arrange.proofs.Left.{left-under, left-outcome}
 
 module _ (pairs s list extents : List ℕ) (g : goodTable pairs ≡ true) (b : Bytes s) (m : Meets v3 pairs s) where
@@ -69,7 +69,7 @@ module _ (pairs s list extents : List ℕ) (g : goodTable pairs ≡ true) (b : B
       (λ (f : ¬ (r k .flags ≡ 1)). sym (t .live f .sum))
 
   record-line : (k : ℕ) → k < recordCount h → Line (Records (recordsOffset h)) s list extents k
-  unfolding itemEntry recordEntry Held itemTotal entryExtents itemExtents recordNo recordOf
+  unfolding itemEntry recordEntry Held itemTotal extentsOfEntry itemExtents recordNo recordOf
   record-line k l =
       let e = m .each k l in
       let z = allowed-small pairs (r k .«hash_id») (r k .«digest_length») g (e .digest .allowed) in
@@ -81,7 +81,7 @@ module _ (pairs s list extents : List ℕ) (g : goodTable pairs ≡ true) (b : B
             digest = z .1;
             visibility = e .marks .visibility;
             imported = e .marks .imported;
-            domain = num-fits 4 s (at k + 40) b;
+            source = num-fits 4 s (at k + 40) b;
             gone = e .marks .flags;
             extents = num-fits 4 s (at k + 24) b;
           };
@@ -102,7 +102,7 @@ module _ (pairs s list extents : List ℕ) (g : goodTable pairs ≡ true) (b : B
 same-form : (s list extents : List ℕ)
     → itemsForm (headingOf s (headerOf s)) (take (bloomSize (headerOf s)) (drop 112 s)) (Records (recordsOffset (headerOf s))) s list extents (recordCount (headerOf s))
     ≡ tidyForm v3 (meaningOf v3 s)
-unfolding itemsForm meaningOf rowsOf rowNo rowOf recordNo itemRow rowOfEntry itemEntry recordEntry entryExtents itemExtents digestIn
+unfolding itemsForm meaningOf rowsOf rowNo rowOf recordNo itemRow rowOfEntry itemEntry recordEntry extentsOfEntry itemExtents digestIn
 same-form s list extents = refl
 
 -- ---- under the header as it was read

@@ -8,7 +8,7 @@ ghost use Rattle.segment.specs.Table.{goodTable};
 ghost use Rattle.segment.specs.Check.{segmentVerdict};
 ghost use Rattle.segment.specs.Meaning.{headingOf, meaningOf};
 ghost use Rattle.segment.specs.Tidy.{tidyForm, outcome, tidyOf};
-ghost use Rattle.arrange.specs.Left.{Left};
+ghost use Rattle.emit.specs.Emit.{Left};
 use order::Kind;
 use rules::Refusal;
 use rules::Verdict;
