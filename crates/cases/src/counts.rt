@@ -2,9 +2,9 @@
 ghost use mathlib.Core.Path.{_≡_};
 ghost use Prim.Native.Nat.{_*_};
 ghost use lib.ListN.{length};
-use rules::Refusal;
-use rules::Written;
-use segment::header::Heading;
+use asl::Heading;
+use asl::Refusal;
+use asl::Written;
 
 // One line: what was asked, and what write answered.
 fn show(name: &[u8], answer: Written) {
@@ -40,7 +40,7 @@ fn ask(name: &[u8], entries: &[u64], digests: &[u8]) {
     let mut out = [0u8; 8];
     show(
         name,
-        seal::write(
+        asl::write(
             &table,
             heading,
             &digests[..0],

@@ -52,7 +52,7 @@ fn found(r: Record) -> Found
 }
 
 // The record of an accepted segment that has the key, if there is one.
-fn find(pairs: &[u64], seg: &[u8], hash: u32, digest: &[u8]) -> Found
+fn find(pairs: &[u64], seg: &[u8], hash: u64, digest: &[u8]) -> Found
     requires { ⌜ segmentVerdict v3 (now pairs) (now seg) ≡ Accepted ⌝ }
     ensures { λ r. ⌜ r ≡ foundIn v3 (now (seg .entry)) (headerOf (now (seg .entry))) (keyOf hash (now (digest .entry))) ⌝ }
 {
@@ -61,7 +61,7 @@ fn find(pairs: &[u64], seg: &[u8], hash: u32, digest: &[u8]) -> Found
     let count = h.record_count as usize;
     let mut k = 0;
     while k < count {
-        if order::key_is(Kind::Records(first), seg, pairs, k, hash as u64, digest) {
+        if order::key_is(Kind::Records(first), seg, pairs, k, hash, digest) {
             return found(Record::at(seg, first + Record::SIZE * k));
         }
         k += 1;
@@ -70,10 +70,10 @@ fn find(pairs: &[u64], seg: &[u8], hash: u32, digest: &[u8]) -> Found
 }
 
 // Everything but the table.
-fn look_up_under(pairs: &[u64], seg: &[u8], hash: u32, digest: &[u8]) -> Found
+fn look_up_under(pairs: &[u64], seg: &[u8], hash: u64, digest: &[u8]) -> Found
     ensures { λ r. ⌜ r ≡ foundUnder (now (pairs .entry)) (now (seg .entry)) hash (now (digest .entry)) ⌝ }
 {
-    if !table::allows(pairs, hash as u64, digest.len() as u64) {
+    if !table::allows(pairs, hash, digest.len() as u64) {
         return Found::Refused(Refusal::Key);
     }
     match accept::check_segment(pairs, seg) {
@@ -85,7 +85,7 @@ fn look_up_under(pairs: &[u64], seg: &[u8], hash: u32, digest: &[u8]) -> Found
     find(pairs, seg, hash, digest)
 }
 
-pub fn look_up(pairs: &[u64], seg: &[u8], hash: u32, digest: &[u8]) -> Found
+pub fn look_up(pairs: &[u64], seg: &[u8], hash: u64, digest: &[u8]) -> Found
     ensures { λ r. ⌜ foundAnswer r ≡ lookUpOf (now (pairs .entry)) (now (seg .entry)) hash (now (digest .entry)) ⌝ }
 {
     let tabled = Table::of(pairs);

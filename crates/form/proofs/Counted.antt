@@ -1,7 +1,7 @@
 -- What holds of each element, or of each two, of a list f k, f (k + 1), .., n of them: said of the list and said of the numbers.
 -- Assumes nothing.
 use Prim.Native.Nat.{ℕ, zero, suc, _+_, _≤_, _<_}
-use mathlib.Core.Path.{_≡_, refl, sym, ap, subst}
+use mathlib.Core.Path.{_≡_, refl, sym, ap, subst, _∙_}
 use mathlib.Core.Logic.{_↔_, by-cases, ⊎-elim, ∥∥₁-elim}
 use mathlib.Core.List.{
   map,
@@ -19,7 +19,7 @@ use mathlib.Core.List.{
 }
 use native.Mathlib.Decide.{ℕ-discrete}
 use native.Mathlib.Omega.{arith}
-use lib.ListN.{length}
+use lib.ListN.{length, getD}
 use Rattle.segment.specs.Meaning.{countFrom}
 use Rattle.order.specs.Order.{Each}
 
@@ -30,6 +30,12 @@ module _ {A : Type 0} (f : ℕ → A) where
   counted-long k (suc n) = ap suc (counted-long (suc k) n)
 
   -- the members are the elements
+  pub counted-at : (k n i : ℕ) (d : A) → i < n → getD (map f (countFrom k n)) i d ≡ f (k + i)
+  unfolding countFrom
+  counted-at k zero i d h = absurd (omega arith)
+  counted-at k (suc n) zero d h = ap f (omega arith)
+  counted-at k (suc n) (suc i) d h = counted-at (suc k) n i d (omega arith) ∙ ap f (omega arith)
+
   member : (k n i : ℕ) → k ≤ i → i < k + n → List·Mem (f i) (map f (countFrom k n))
   unfolding countFrom
   member k zero i l u = absurd (omega arith)

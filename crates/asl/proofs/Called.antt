@@ -1,0 +1,74 @@
+-- Each entry point says what its service says, in numbers.
+-- Assumes nothing.
+use Prim.Native.Nat.{ℕ}
+use mathlib.Core.Path.{_≡_, refl, sym, ap, _∙_}
+use mathlib.Core.Bool.{false}
+use mathlib.Core.List.{List}
+use lib.ListN.{take}
+use Rattle.rules.specs.declared.Refusal.{Refusal}
+use Rattle.rules.specs.declared.Refusal.the-variants.{Table as TableWrong}
+use Rattle.rules.specs.declared.Verdict.{Verdict}
+use Rattle.rules.specs.declared.Verdict.the-variants.{Accepted, Refused}
+use Rattle.rules.specs.declared.Found.{Found}
+use Rattle.rules.specs.declared.Found.the-variants.{Refused as NotFound}
+use Rattle.rules.specs.declared.Written.{Written}
+use Rattle.rules.specs.declared.Written.the-variants.{Refused as NotWritten}
+use Rattle.rules.specs.Answers.{numberOf, placeOf, checkAnswer, foundAnswer, writtenAnswer}
+use Rattle.rules.proofs.Settled.{found-settled}
+use Rattle.segment.specs.declared.table.Table.{Table}
+use Rattle.segment.specs.Check.{checkOf}
+use Rattle.segment.specs.LookUp.{lookedUp, lookUpOf}
+use Rattle.segment.specs.Tidy.{Outcome, outcome, tidyOf}
+use Rattle.segment.specs.Write.{Request, writeOf}
+use Rattle.accept.proofs.Whole.{table-bad as check-bad}
+use Rattle.find.proofs.Finding.{table-bad as look-up-bad}
+use Rattle.tidy.proofs.Reading.{table-bad as tidy-bad}
+use Rattle.seal.proofs.Asking.{table-bad as write-bad}
+use Rattle.asl.specs.declared.boundary.Reply.{Reply}
+use Rattle.asl.specs.Boundary.{tableIn, told, replyOf, lookedUpBy, replyLeft, lengthAfter, sealedBy, sealedAs}
+use Rattle.asl.proofs.Tables.{Lent, alike-said}
+
+module _ (bytes : List ℕ) (t : Table) (l : Lent bytes t) where
+  abbrev part : List ℕ
+  part = take (t .count) (t .numbers)
+
+  -- check
+  module _ (s : List ℕ) (v : Verdict) (c : checkAnswer v ≡ checkOf part s) where
+    checked-alike : checkAnswer v ≡ checkOf (tableIn bytes) s
+    checked-alike = c ∙ alike-said (λ p. checkOf p s) (checkAnswer (Refused TableWrong)) (λ p. check-bad p s) l
+
+    pub told-accepted : v ≡ Accepted → told 0 0 ≡ checkOf (tableIn bytes) s
+    told-accepted e = sym (ap checkAnswer e) ∙ checked-alike
+
+    pub told-refused : {x : Refusal} {n p : ℕ} → v ≡ Refused x → n ≡ numberOf x → p ≡ placeOf x → told n p ≡ checkOf (tableIn bytes) s
+    told-refused e g h = rw (g, h) (sym (ap checkAnswer e) ∙ checked-alike)
+
+  -- look up
+  module _ (s : List ℕ) (hash : ℕ) (digest : List ℕ) (f : Found) (c : foundAnswer f ≡ lookUpOf part s hash digest) where
+    found-alike : f ≡ lookedUp (tableIn bytes) s hash digest
+    unfolding lookUpOf
+    found-alike =
+        found-settled f (lookedUp (tableIn bytes) s hash digest)
+        (c ∙ alike-said (λ p. lookUpOf p s hash digest) (foundAnswer (NotFound TableWrong)) (λ p. look-up-bad p s hash digest) l)
+
+    pub looked-up : (a : Reply) (n p : ℕ) (found after : List ℕ) → a ≡ replyOf f → lookedUpBy n p after ≡ replyLeft a found
+        → lookedUpBy n p after ≡ replyLeft (replyOf (lookedUp (tableIn bytes) s hash digest)) found
+    looked-up a n p found after e g = g ∙ ap (λ (b : Reply). replyLeft b found) (e ∙ ap replyOf found-alike)
+
+  -- tidy and write
+  sealed : (w : Written) (o : Outcome) (before : ℕ) {n p m : ℕ} {after : List ℕ} → outcome w after ≡ o
+      → (n ≡ writtenAnswer w .number) × (p ≡ writtenAnswer w .place) × (m ≡ lengthAfter (writtenAnswer w .values) before) → sealedBy n p m after ≡ sealedAs o before
+  unfolding sealedAs
+  sealed w o before e f = rw (f .0, f .1, f .2) (ap (λ (q : Outcome). sealedAs q before) e)
+
+  pub tidied : (s out : List ℕ) (w : Written) (before : ℕ) {n p m : ℕ} {after : List ℕ} → outcome w after ≡ tidyOf part s out
+      → (n ≡ writtenAnswer w .number) × (p ≡ writtenAnswer w .place) × (m ≡ lengthAfter (writtenAnswer w .values) before)
+      → sealedBy n p m after ≡ sealedAs (tidyOf (tableIn bytes) s out) before
+  tidied s out w before e f =
+      sealed w (tidyOf (tableIn bytes) s out) before (e ∙ alike-said (λ p. tidyOf p s out) (outcome (NotWritten TableWrong) out) (λ p. tidy-bad p s out) l) f
+
+  pub written : (q : Request) (out : List ℕ) (w : Written) (before : ℕ) {n p m : ℕ} {after : List ℕ} → outcome w after ≡ writeOf part q out
+      → (n ≡ writtenAnswer w .number) × (p ≡ writtenAnswer w .place) × (m ≡ lengthAfter (writtenAnswer w .values) before)
+      → sealedBy n p m after ≡ sealedAs (writeOf (tableIn bytes) q out) before
+  written q out w before e f =
+      sealed w (writeOf (tableIn bytes) q out) before (e ∙ alike-said (λ p. writeOf p q out) (outcome (NotWritten TableWrong) out) (λ p. write-bad p q out) l) f

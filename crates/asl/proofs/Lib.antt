@@ -1,0 +1,4 @@
+pub mod Tables
+pub mod Replies
+pub mod Called
+pub mod Kept

@@ -1,0 +1,27 @@
+// The library. Its interface for Rattle, gathered here: check, look up, write, tidy, the walk, and what they take and answer; and
+// the entry points for C, in `calls`.
+mod boundary;
+pub mod calls;
+
+pub use accept::check;
+pub use find::extents_of;
+pub use find::look_up;
+pub use rules::Found;
+pub use rules::Refusal;
+pub use rules::Source;
+pub use rules::Verdict;
+pub use rules::Written;
+pub use rules::number;
+pub use rules::place;
+pub use seal::write;
+pub use segment::header::Heading;
+pub use segment::record::Record;
+pub use segment::step::Step;
+pub use tidy::tidy;
+pub use walk::Walker;
+pub use walk::next;
+pub use walk::pairs::Length;
+pub use walk::pairs::Pair;
+pub use walk::pairs::length_in;
+pub use walk::start;
+pub use walk::step_from;
