@@ -71,9 +71,9 @@ front-more values found₀ i found c h r = let n : 0 + i ≡ i = omega arith in 
 
 -- a reply that is left in the lent numbers
 module _ (a : Reply) (found : List ℕ) where
-  pub left-refused : (a .number ≡ 0 → ⊥) → lookedUpBy (a .number) (a .place) found ≡ replyLeft a found
+  pub left-refused : 0 < a .number → lookedUpBy (a .number) (a .place) found ≡ replyLeft a found
   unfolding replyLeft
-  left-refused h = simp tests
+  left-refused h = let n : a .number ≡ 0 → ⊥ = λ e. omega arith in simp tests
 
   pub left-room : {n p : ℕ} → a .number ≡ 0 → length found < 8 → n ≡ numberOf Room → p ≡ placeOf Room → lookedUpBy n p found ≡ replyLeft a found
   unfolding replyLeft

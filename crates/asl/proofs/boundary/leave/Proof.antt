@@ -9,10 +9,10 @@ pub leave-spec : {M : Type 1} → statement M
 leave-spec =
     tie.close
     (tie.spec
-    (λ c. left-refused _ _ (c .if1 .taken))
+    (λ c. left-refused _ _ (omega arith))
     (λ c κs. search needs)
-    (λ c. left-room _ _ (c .before .before .before .before .if1 .left) (omega arith) (c .refuse .ensures .0) (c .refuse .ensures .1))
+    (λ c. left-room _ _ (omega (arith, c .before .before .before .before .if1 .left)) (omega arith) (c .refuse .ensures .0) (c .refuse .ensures .1))
     (λ c. search needs)
     (λ c κs. omega (arith, c .before .before .before .before .before .before .before .pre))
     (λ c. search needs)
-    (λ c. left-put _ _ _ (c .before .before .before .before .before .before .before .if1 .left) (omega arith) (c .before .before .put-values .ensures)))
+    (λ c. left-put _ _ _ (omega (arith, c .before .before .before .before .before .before .before .if1 .left)) (omega arith) (c .before .before .put-values .ensures)))
