@@ -1,4 +1,1 @@
-pub mod HeaderRows
-pub mod RecordRows
-pub mod ExtentRows
 pub mod Whole

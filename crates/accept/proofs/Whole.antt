@@ -1,29 +1,27 @@
--- How the tables stand in order: one record, the pass over all of them, what follows the layout, and the whole.
+-- How the tables stand in order after the header's, and the whole.
 -- Assumes nothing.
-use Prim.Native.Nat.{ℕ, _+_, _*_, _%_, _≤_, _<_, max}
+use Prim.Native.Nat.{ℕ, _+_, _≤_, _<_}
 use mathlib.Core.Path.{_≡_, refl, sym, ap, _∙_}
 use mathlib.Core.Bool.{true, false}
 use mathlib.Core.List.{List}
-use native.Mathlib.Numerals.{add-one}
 use native.Mathlib.Omega.{arith}
-use borrow.Author.Tests.{leb-true, eqb-true, eq-eqb, ne-eqb}
-use lib.Dec.{leb, eqb}
+use borrow.Author.Tests.{leb-true, eq-eqb, ne-eqb}
+use lib.Dec.{leb}
 use lib.ListN.{length}
 use Rattle.rules.specs.declared.Refusal.{Refusal}
-use Rattle.rules.specs.declared.Refusal.the-variants.{Size, Layout, Digest, Visibility, Table as TableWrong}
+use Rattle.rules.specs.declared.Refusal.the-variants.{Size, Digest, Visibility, Table as TableWrong}
 use Rattle.rules.specs.declared.Verdict.{Verdict}
 use Rattle.rules.specs.declared.Verdict.the-variants.{Accepted, Refused}
 use Rattle.rules.specs.Rules.{_then_, firstOver}
 use Rattle.rules.specs.Answers.{checkAnswer}
-use Rattle.rules.proofs.Order.{tests, held, must-accepted, then-accepted, first-none, first-more, first-refused, first-accepted}
+use Rattle.rules.proofs.Order.{tests, held, must-accepted, then-accepted, then-assoc, first-accepted}
 use Rattle.segment.specs.declared.header.Header.{Header}
 use Rattle.segment.specs.declared.record.Record.{Record}
-use Rattle.segment.specs.Format.{v3, headerOf, recordOf, recordNo, recordCount, recordsOffset, bloomSize, bloomOffset, digestsOffset, digestsSize, extentsOffset, extentCount}
-use Rattle.segment.specs.Table.{goodTable, tableVerdict, allows}
+use Rattle.segment.specs.Format.{v3, headerOf, recordNo, recordCount, recordsOffset, digestsOffset, digestsSize}
+use Rattle.store.specs.Table.{goodTable, tableVerdict, allows}
 use Rattle.segment.specs.Check.{
   sizeVerdict,
   headVerdict,
-  bloomPlace,
   layoutVerdict,
   checksumVerdict,
   segmentRules,
@@ -32,8 +30,6 @@ use Rattle.segment.specs.Check.{
   checkOf,
   marksVerdict,
   digestVerdict,
-  extentsVerdict,
-  totalVerdict,
   recordRules,
   recordVerdict,
   largestBelow,
@@ -43,78 +39,13 @@ use Rattle.segment.specs.Check.{
   keyNo,
 }
 use Rattle.segment.specs.Keys.{freshKey}
-use Rattle.order.specs.declared.Kind.the-variants.{Records}
-use Rattle.order.specs.Items.{Item, Items, Stands, itemKey, itemHash, itemDigest, itemSpan, recordSpan}
-use Rattle.accept.specs.declared.records.Passed.the-variants.{Largest, Refused as NotPassed}
-use Rattle.accept.specs.Told.{Laid, identityRules, slicesRules, passed, contentsVerdict, bodyRules, headerRules}
-
-then-assoc : (a b c : Verdict) → ((a then b) then c) ≡ (a then (b then c))
-then-assoc Accepted b c = refl
-then-assoc (Refused x) b c = refl
-
--- ---- one record
-
-module _ (pairs : List ℕ) (h : Header) (r : Record) (k : ℕ) where
-  pub marks-stop : (x : Refusal) → marksVerdict h r k ≡ Refused x → Refused x ≡ identityRules pairs h r k
-  unfolding identityRules
-  marks-stop x e = rw e
-
-  pub marks-pass : {v : Verdict} → marksVerdict h r k ≡ Accepted → v ≡ digestVerdict pairs h r k → v ≡ identityRules pairs h r k
-  unfolding identityRules
-  marks-pass e f = rw e f
-
-module _ (s : List ℕ) (h : Header) (r : Record) (k : ℕ) where
-  pub extents-stop : (x : Refusal) → extentsVerdict h r k ≡ Refused x → Refused x ≡ slicesRules s h r k
-  unfolding slicesRules
-  extents-stop x e = rw e
-
-  pub extents-pass : {v : Verdict} → extentsVerdict h r k ≡ Accepted → v ≡ totalVerdict v3 s r k → v ≡ slicesRules s h r k
-  unfolding slicesRules
-  extents-pass e f = rw e f
-
-module _ (pairs s : List ℕ) (h : Header) (r : Record) (k : ℕ) where
-  in-two : recordRules v3 pairs s h r k ≡ (identityRules pairs h r k then slicesRules s h r k)
-  unfolding recordRules identityRules slicesRules
-  in-two = sym (then-assoc (marksVerdict h r k) (digestVerdict pairs h r k) (extentsVerdict h r k then totalVerdict v3 s r k))
-
-  pub identity-stop : (x : Refusal) → identityRules pairs h r k ≡ Refused x → Refused x ≡ recordRules v3 pairs s h r k
-  identity-stop x e = sym (in-two ∙ rw e)
-
-  pub identity-pass : {v : Verdict} → identityRules pairs h r k ≡ Accepted → v ≡ slicesRules s h r k → v ≡ recordRules v3 pairs s h r k
-  identity-pass e f = f ∙ sym (in-two ∙ rw e)
-
--- ---- the pass over the records
-
--- a pass has come to k, and nothing is refused below it
-pub record Passing (pairs s : List ℕ) (h : Header) (k largest : ℕ) : Type 0 where
-  pub accepted : firstOver k (recordVerdict v3 pairs s h) ≡ Accepted
-  pub shown : largest ≡ largestBelow k (visibilityNo v3 s h)
-
-pub pass-start : (pairs s : List ℕ) (h : Header) → Passing pairs s h 0 0
-unfolding largestBelow
-pass-start pairs s h = record { accepted = first-none (recordVerdict v3 pairs s h); shown = refl }
-
-module _ (pairs s : List ℕ) (h : Header) (k largest : ℕ) (r : Record) (p : Passing pairs s h k largest) (q : r ≡ recordOf v3 s (recordsOffset h + 48 * k)) where
-  here : recordRules v3 pairs s h r k ≡ recordVerdict v3 pairs s h k
-  unfolding recordVerdict recordNo
-  here = rw q
-
-  pub pass-refused : (n : ℕ) (x : Refusal) → k < n → recordRules v3 pairs s h r k ≡ Refused x → NotPassed x ≡ passed pairs s h n
-  unfolding passed
-  pass-refused n x l e = rw (first-refused n k (recordVerdict v3 pairs s h) x l (p .accepted) (sym here ∙ e))
-
-  pub pass-more : (m : ℕ) → recordRules v3 pairs s h r k ≡ Accepted → m ≡ max largest (r .visibility) → Passing pairs s h (k + 1) m
-  unfolding largestBelow visibilityNo recordNo
-  pass-more m e f = record {
-    accepted = first-more k (recordVerdict v3 pairs s h) (p .accepted) (sym here ∙ e);
-    shown = f ∙ rw (add-one, p .shown, q);
-  }
-
-pub pass-done : (pairs s : List ℕ) (h : Header) (n k largest : ℕ) → Passing pairs s h k largest → k ≤ n → n ≤ k → Largest largest ≡ passed pairs s h n
-unfolding passed
-pass-done pairs s h n k largest p a b =
-    let e : n ≡ k = omega arith in
-    rw (e, p .accepted, ← p .shown)
+use Rattle.keys.specs.declared.Kind.the-variants.{Records}
+use Rattle.keys.specs.Items.{Item, Items, Stands, itemKey, itemHash, itemDigest, itemSpan, recordSpan}
+use Rattle.heads.specs.Told.{Laid, headerRules}
+use Rattle.heads.proofs.Whole.{laid-of}
+use Rattle.records.specs.declared.Passed.the-variants.{Largest, Refused as NotPassed}
+use Rattle.records.specs.Told.{passed}
+use Rattle.accept.specs.Told.{contentsVerdict, bodyRules}
 
 -- ---- after the checksum
 
@@ -198,36 +129,6 @@ pub records-stand : (pairs s : List ℕ) (h : Header) → Laid s h → firstOver
 records-stand pairs s h l e = record { each = λ k i. one-stands pairs s h k l i (first-accepted (recordCount h) (recordVerdict v3 pairs s h) .0 e k i) }
 
 -- ---- the whole
-
-pub laid-of : (s : List ℕ) (h : Header) → headerRules h (length s) ≡ Accepted → length s ≤ 1073741824 → Laid s h
-unfolding headerRules layoutVerdict
-laid-of s h e most =
-    let w = then-accepted (headVerdict v3 h) (layoutVerdict v3 h (length s)) .0 e .1 in
-    let a = held (eqb (bloomOffset h) (bloomPlace (bloomSize h))) Layout _ w in
-    let b = held (eqb (bloomSize h % 8) 0) Layout _ (a .1) in
-    let c = held (leb (recordCount h) 65536) Layout _ (b .1) in
-    let d = held (eqb (recordsOffset h) (112 + bloomSize h)) Layout _ (c .1) in
-    let f = held (eqb (digestsOffset h) (recordsOffset h + 48 * recordCount h)) Layout _ (d .1) in
-    let g = held (eqb (digestsSize h % 8) 0) Layout _ (f .1) in
-    let i = held (eqb (extentsOffset h) (digestsOffset h + digestsSize h)) Layout _ (g .1) in
-    let j = must-accepted (eqb (length s) (extentsOffset h + 16 * extentCount h + 24)) Layout .0 (i .1) in
-    record {
-      few = leb-true (recordCount h) 65536 (c .0);
-      records = eqb-true (recordsOffset h) (112 + bloomSize h) (d .0);
-      digests = eqb-true (digestsOffset h) (recordsOffset h + 48 * recordCount h) (f .0);
-      extents = eqb-true (extentsOffset h) (digestsOffset h + digestsSize h) (i .0);
-      file = eqb-true (length s) (extentsOffset h + 16 * extentCount h + 24) j;
-      most = most;
-    }
-
-module _ (h : Header) (n : ℕ) where
-  pub head-stop : (x : Refusal) → headVerdict v3 h ≡ Refused x → Refused x ≡ headerRules h n
-  unfolding headerRules
-  head-stop x e = rw e
-
-  pub head-pass : {v : Verdict} → headVerdict v3 h ≡ Accepted → v ≡ layoutVerdict v3 h n → v ≡ headerRules h n
-  unfolding headerRules
-  head-pass e f = rw e f
 
 module _ (pairs s : List ℕ) (h : Header) where
   pub checksum-stop : (x : Refusal) → checksumVerdict s ≡ Refused x → Refused x ≡ bodyRules pairs s h

@@ -5,23 +5,20 @@ ghost use lib.ListN.{length};
 ghost use Rattle.rules.specs.Answers.{checkAnswer};
 ghost use Rattle.segment.specs.Format.{v3};
 ghost use Rattle.segment.specs.Check.{segmentRules, segmentVerdict, checkOf};
-ghost use Rattle.accept.specs.Told.{Laid, contentsVerdict, bodyRules};
-use order::Kind;
+ghost use Rattle.heads.specs.Told.{Laid};
+ghost use Rattle.accept.specs.Told.{contentsVerdict, bodyRules};
+use keys::Kind;
 use records::Passed;
 use rules::Refusal;
 use rules::Verdict;
 use segment::footer::Footer;
 use segment::header::Header;
-use segment::table::Table;
+use store::Table;
 
 // A segment's length at the least and at the most: a header and a footer; one GiB.
 const LEAST: usize = Header::SIZE + Footer::SIZE;
 
 const LIMIT: usize = 1073741824;
-
-mod extents;
-mod header;
-mod records;
 
 // Records, visibility and duplicates, of a segment whose header, layout and checksum are right.
 fn check_contents(pairs: &[u64], seg: &[u8], h: Header) -> Verdict
@@ -48,7 +45,7 @@ fn check_body(pairs: &[u64], seg: &[u8], h: Header) -> Verdict
     requires { ⌜ Laid (now seg) h ⌝ }
     ensures { λ r. ⌜ r ≡ bodyRules (now (pairs .entry)) (now (seg .entry)) h ⌝ }
 {
-    match header::check_checksum(seg) {
+    match heads::check_checksum(seg) {
         Verdict::Refused(r) => {
             return Verdict::Refused(r);
         }
@@ -61,7 +58,7 @@ fn check_rules(pairs: &[u64], seg: &[u8], h: Header) -> Verdict
     requires { ⌜ length (now seg) ≤ 1073741824 ⌝ }
     ensures { λ r. ⌜ r ≡ segmentRules v3 (now (pairs .entry)) (now (seg .entry)) h ⌝ }
 {
-    match header::check_header(h, seg.len() as u64) {
+    match heads::check_header(h, seg.len() as u64) {
         Verdict::Refused(r) => {
             return Verdict::Refused(r);
         }

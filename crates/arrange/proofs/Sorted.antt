@@ -14,9 +14,10 @@ use Rattle.segment.specs.Keys.{sortBy}
 use Rattle.segment.specs.Meaning.{countFrom}
 use Rattle.segment.specs.Tidy.{formOf, rowLeq, tidyForm}
 use Rattle.form.proofs.Counted.{counted-long}
-use Rattle.order.specs.declared.Kind.{Kind}
-use Rattle.order.specs.Items.{Item}
-use Rattle.order.specs.Order.{Each, itemLeq}
+use Rattle.keys.specs.declared.Kind.{Kind}
+use Rattle.keys.specs.Items.{Item}
+use Rattle.keys.specs.Lex.{itemLeq}
+use Rattle.order.specs.Order.{Each}
 use Rattle.order.proofs.Each.{each-counted}
 use Rattle.order.proofs.Arranged.{each-sort}
 use Rattle.order.proofs.Sorting.{sort-length}

@@ -8,7 +8,7 @@ use Rattle.segment.specs.declared.header.Heading.{Heading}
 use Rattle.segment.specs.Format.{v3}
 use Rattle.segment.specs.Meaning.{countFrom}
 use Rattle.segment.specs.Tidy.{tidyForm}
-use Rattle.order.specs.declared.Kind.{Kind}
+use Rattle.keys.specs.declared.Kind.{Kind}
 use Rattle.lines.specs.Lines.{itemRows, Line}
 
 pub record AllLines (kind : Kind) (bytes list extents : List ℕ) (n : ℕ) : Type 0 where

@@ -6,7 +6,7 @@ ghost use lib.ListN.{length};
 ghost use Rattle.segment.specs.Meaning.{countFrom};
 ghost use Rattle.emit.specs.Emit.{Wrote};
 ghost use Rattle.arrange.specs.Arrange.{AllLines, itemsForm};
-use order::Kind;
+use keys::Kind;
 use rules::Written;
 use segment::header::Heading;
 

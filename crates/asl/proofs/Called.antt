@@ -15,7 +15,7 @@ use Rattle.rules.specs.declared.Written.{Written}
 use Rattle.rules.specs.declared.Written.the-variants.{Refused as NotWritten}
 use Rattle.rules.specs.Answers.{numberOf, placeOf, checkAnswer, foundAnswer, writtenAnswer}
 use Rattle.rules.proofs.Settled.{found-settled}
-use Rattle.segment.specs.declared.table.Table.{Table}
+use Rattle.store.specs.declared.Table.{Table}
 use Rattle.segment.specs.Check.{checkOf}
 use Rattle.segment.specs.LookUp.{lookedUp, lookUpOf}
 use Rattle.segment.specs.Tidy.{Outcome, outcome, tidyOf}

@@ -11,10 +11,10 @@ use lib.Dec.{eqb, leb}
 use lib.ListN.{length, getD, take, set, replicate, length-set, length-append, length-replicate}
 use lib.Seq.{take-all, take-at, take-length}
 use Rattle.rules.proofs.Order.{tests, by-test}
-use Rattle.segment.specs.declared.table.Table.{Table}
+use Rattle.store.specs.declared.Table.{Table}
 use Rattle.segment.specs.Meaning.{countFrom}
-use Rattle.segment.specs.Table.{goodTable}
-use Rattle.segment.proofs.Pairs.{empty-table, long-table, copied-more}
+use Rattle.store.specs.Table.{goodTable}
+use Rattle.store.proofs.Pairs.{empty-table, long-table, copied-more}
 use Rattle.form.proofs.Counted.{counted-long, counted-at}
 use Rattle.asl.specs.Boundary.{wordNo, tableIn, tableCopied}
 

@@ -17,7 +17,7 @@ use Rattle.rules.specs.declared.Found.{Found}
 use Rattle.rules.specs.declared.Found.the-variants.{Absent, Gone, Present, Refused}
 use Rattle.rules.specs.Answers.{numberOf, placeOf, Answer, sourceValues}
 use Rattle.segment.specs.declared.header.Heading.{Heading}
-use Rattle.segment.specs.declared.table.Table.{Table}
+use Rattle.store.specs.declared.Table.{Table}
 use Rattle.segment.specs.Meaning.{countFrom}
 use Rattle.segment.specs.Tidy.{Outcome}
 use Rattle.asl.specs.declared.boundary.Reply.{Reply}

@@ -10,7 +10,7 @@ use rules::Found;
 use rules::Refusal;
 use rules::Source;
 use rules::Written;
-use segment::table::Table;
+use store::Table;
 
 // Look up's answer in numbers.
 pub struct Reply {

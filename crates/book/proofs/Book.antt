@@ -10,7 +10,7 @@ use Rattle.rules.specs.Rules.{firstOver}
 use Rattle.rules.proofs.Order.{then-accepted, first-accepted}
 use Rattle.segment.specs.declared.header.Header.{Header}
 use Rattle.segment.specs.Format.{Shape, v3, recordNo}
-use Rattle.segment.specs.Table.{goodTable}
+use Rattle.store.specs.Table.{goodTable}
 use Rattle.segment.specs.Check.{recordVerdict, segmentRules, segmentVerdict, checked}
 use Rattle.segment.specs.Meets.{RecordMeets, Meets}
 use Rattle.order.proofs.Fresh.{keys-book}

@@ -14,7 +14,7 @@ use Rattle.rules.specs.declared.Verdict.the-variants.{Accepted, Refused}
 use Rattle.rules.proofs.Order.{tests, rows}
 use Rattle.segment.specs.declared.header.Header.{Header}
 use Rattle.segment.specs.Format.{Shape, v3, bloomSize}
-use Rattle.segment.specs.Table.{goodTable, tableVerdict}
+use Rattle.store.specs.Table.{goodTable, tableVerdict}
 use Rattle.segment.specs.Check.{sizeVerdict, headVerdict, layoutVerdict, checksumVerdict}
 use Rattle.segment.specs.Meets.{SizeMeets, HeaderMeets, LayoutMeets, ChecksumMeets}
 use Rattle.book.proofs.Rows.{only-rows, broken}

@@ -14,7 +14,7 @@ use Rattle.rules.specs.Rules.{must, _then_, firstOver, someBelow}
 use Rattle.segment.specs.declared.header.Header.{Header}
 use Rattle.segment.specs.declared.record.Record.{Record}
 use Rattle.segment.specs.Format.{v3, headerOf, recordNo, recordCount}
-use Rattle.segment.specs.Table.{goodTable}
+use Rattle.store.specs.Table.{goodTable}
 use Rattle.segment.specs.Keys.{freshKey}
 use Rattle.segment.specs.Check.{
   sizeVerdict,

@@ -20,11 +20,11 @@ use Rattle.rules.proofs.Order.{by-test, then-accepted}
 use Rattle.rules.proofs.Settled.{check-settled, found-settled}
 use Rattle.segment.specs.declared.record.Record.{Record}
 use Rattle.segment.specs.Format.{v3, headerOf, recordCount, recordNo}
-use Rattle.segment.specs.Table.{goodTable, tableVerdict, allows}
+use Rattle.store.specs.Table.{goodTable, tableVerdict, allows}
 use Rattle.segment.specs.Keys.{keyOf}
 use Rattle.segment.specs.Check.{keyNo, segmentVerdict, checked, checkOf}
 use Rattle.segment.specs.LookUp.{keyVerdict, recordFound, foundOver, foundNo, foundIn, foundUnder, lookedUp, lookUpOf, extentsPart}
-use Rattle.order.proofs.Equal.{eqList-iff, unequal}
+use Rattle.keys.proofs.Equal.{eqList-iff, unequal}
 use Rattle.find.proofs.Finding.{never-absent, never-refused, found-all, found-first}
 use Rattle.demands.specs.PCases.{accepted}
 use Rattle.demands.specs.LookUps.{HasKey, Finds, LookGiven, by-table, by-key, by-segment}

@@ -22,7 +22,7 @@ use Rattle.segment.specs.declared.header.Heading.{Heading}
 use Rattle.segment.specs.declared.record.Record.{Record}
 use Rattle.segment.specs.declared.extent.Extent.{Extent}
 use Rattle.segment.specs.Format.{v3, headerOf, recordNo, extentOf, extentsAt, inBlock, recordCount, bloomOffset, bloomSize, recordsOffset}
-use Rattle.segment.specs.Table.{goodTable, allows, tableVerdict}
+use Rattle.store.specs.Table.{goodTable, allows, tableVerdict}
 use Rattle.segment.specs.Keys.{keyOf, lexLeq, insert, sortBy}
 use Rattle.segment.specs.Check.{
   sizeVerdict,
@@ -47,7 +47,7 @@ use Rattle.segment.specs.Check.{
 }
 use Rattle.segment.specs.Tidy.{tidyForm, formOf, formBody, formHeader, packed, headerFields, recordFields, recordFor, recordsBytes, digestBytes, digestSection, extentListBytes, extentBytes, extentFields, footerFields}
 use Rattle.segment.specs.LookUp.{keyVerdict, recordFound, foundOver, foundNo, foundIn, foundUnder, lookedUp, lookUpOf}
-use Rattle.order.proofs.Equal.{eqList-self}
+use Rattle.keys.proofs.Equal.{eqList-self}
 use Rattle.demands.specs.PCases.{
   headerWith,
   recordWith,

@@ -29,7 +29,7 @@ use Rattle.rules.specs.Rules.{firstOver}
 use Rattle.rules.specs.Answers.{refused}
 use Rattle.rules.proofs.Order.{never-both, Lowest, by-run}
 use Rattle.segment.specs.Format.{v3, headerOf, recordCount}
-use Rattle.segment.specs.Table.{goodTable}
+use Rattle.store.specs.Table.{goodTable}
 use Rattle.segment.specs.Keys.{freshKey}
 use Rattle.segment.specs.Check.{recordVerdict, keyNo, checked, checkOf}
 use Rattle.segment.specs.Meets.{MarksMeet, DigestMeets, RecordMeets}

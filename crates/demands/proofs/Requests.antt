@@ -16,7 +16,7 @@ use Rattle.rules.specs.Rules.{must, _then_, firstOver}
 use Rattle.rules.proofs.Order.{by-test, rows, then-accepted, then-refused, first-refused, Lowest, first-is-lowest}
 use Rattle.segment.specs.declared.entry.Entry.{Entry}
 use Rattle.segment.specs.Format.{v3, recordLimit}
-use Rattle.segment.specs.Table.{goodTable, tableVerdict}
+use Rattle.store.specs.Table.{goodTable, tableVerdict}
 use Rattle.segment.specs.Keys.{freshKey}
 use Rattle.segment.specs.Write.{
   Request,

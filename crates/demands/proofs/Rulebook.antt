@@ -12,7 +12,7 @@ use Rattle.rules.specs.Answers.{checkAnswer}
 use Rattle.rules.proofs.Order.{then-accepted}
 use Rattle.rules.proofs.Settled.{check-settled}
 use Rattle.segment.specs.Format.{v3}
-use Rattle.segment.specs.Table.{goodTable}
+use Rattle.store.specs.Table.{goodTable}
 use Rattle.segment.specs.Check.{checked, checkOf}
 use Rattle.segment.specs.Meets.{Meets}
 use Rattle.demands.specs.PCases.{accepted}

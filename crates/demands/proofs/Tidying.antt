@@ -13,7 +13,7 @@ use Rattle.rules.specs.declared.Verdict.the-variants.{Accepted}
 use Rattle.rules.specs.declared.Written.{Written}
 use Rattle.rules.specs.declared.Written.the-variants.{Refused}
 use Rattle.segment.specs.Format.{v3, fileLimit}
-use Rattle.segment.specs.Table.{goodTable}
+use Rattle.store.specs.Table.{goodTable}
 use Rattle.segment.specs.Check.{checked, checkOf}
 use Rattle.segment.specs.Meaning.{Meaning, meaningOf, SameMeaning}
 use Rattle.segment.specs.Tidy.{tidyForm, outcome, tidied, tidyOf}

@@ -38,7 +38,7 @@ use Rattle.segment.specs.Write.{
   wrote,
   writeOf,
 }
-use Rattle.segment.proofs.Pairs.{allowed-small}
+use Rattle.store.proofs.Pairs.{allowed-small}
 use Rattle.segment.proofs.Extents.{listed-counted}
 use Rattle.segment.proofs.Sources.{source-fits}
 use Rattle.order.specs.Order.{Each}

@@ -11,7 +11,7 @@ use Rattle.rules.specs.declared.Refusal.{Refusal}
 use Rattle.rules.specs.declared.Refusal.the-variants.{Table, Key}
 use Rattle.rules.specs.Answers.{foundAnswer}
 use Rattle.segment.specs.Format.{v3, extentSize, headerOf, recordCount, recordNo}
-use Rattle.segment.specs.Table.{goodTable, allows}
+use Rattle.store.specs.Table.{goodTable, allows}
 use Rattle.segment.specs.Keys.{keyOf}
 use Rattle.segment.specs.Check.{keyNo}
 use Rattle.segment.specs.LookUp.{recordFound, lookedUp, lookUpOf, extentsPart}

@@ -31,7 +31,7 @@ use Rattle.segment.specs.Format.{
   digestsSize,
   extentsOffset,
 }
-use Rattle.segment.specs.Table.{goodTable, allows}
+use Rattle.store.specs.Table.{goodTable, allows}
 use Rattle.segment.specs.Check.{headVerdict, checkOf}
 use Rattle.segment.specs.Meets.{ChecksumMeets}
 use Rattle.segment.specs.Meaning.{gone, live, Row}

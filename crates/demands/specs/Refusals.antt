@@ -29,7 +29,7 @@ use Rattle.rules.specs.declared.Refusal.the-variants.{
 }
 use Rattle.segment.specs.declared.record.Record.{Record}
 use Rattle.segment.specs.Format.{v3, headerOf, recordCount, recordNo}
-use Rattle.segment.specs.Table.{goodTable}
+use Rattle.store.specs.Table.{goodTable}
 use Rattle.segment.specs.Keys.{FirstTwice}
 use Rattle.segment.specs.Check.{keyNo}
 use Rattle.segment.specs.Meets.{

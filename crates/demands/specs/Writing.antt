@@ -27,7 +27,7 @@ use Rattle.rules.specs.declared.Refusal.the-variants.{
 }
 use Rattle.segment.specs.declared.entry.Entry.{Entry}
 use Rattle.segment.specs.Format.{v3, fileLimit, recordLimit}
-use Rattle.segment.specs.Table.{goodTable, allows}
+use Rattle.store.specs.Table.{goodTable, allows}
 use Rattle.segment.specs.Keys.{FirstTwice}
 use Rattle.segment.specs.Tidy.{tidyForm}
 use Rattle.segment.specs.Write.{Request, entryCount, entryNo, entryExtents, entryKey, requested}

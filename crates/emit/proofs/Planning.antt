@@ -15,7 +15,7 @@ use Rattle.segment.specs.Check.{bloomPlace}
 use Rattle.segment.specs.Meaning.{Row}
 use Rattle.segment.specs.Tidy.{digestBytes, lacking, digestSection, extentTotal, largestVisibility, formHeader, formOf, roomVerdict, settled}
 use Rattle.form.proofs.Sizes.{section-long, v3-length}
-use Rattle.order.specs.declared.Kind.{Kind}
+use Rattle.keys.specs.declared.Kind.{Kind}
 use Rattle.order.specs.Order.{Each}
 use Rattle.lines.specs.declared.Sizes.{Sizes}
 use Rattle.lines.specs.Lines.{itemRow, itemRows, Lines, measured}

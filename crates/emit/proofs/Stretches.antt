@@ -14,7 +14,7 @@ use Rattle.segment.specs.Meaning.{Row}
 use Rattle.segment.specs.Tidy.{recordsBytes, digestBytes, lacking, digestSection, extentBytes}
 use Rattle.form.proofs.Shapes.{v3-shaped}
 use Rattle.form.proofs.Sizes.{records-long, section-long, extentBytes-long}
-use Rattle.order.specs.declared.Kind.{Kind}
+use Rattle.keys.specs.declared.Kind.{Kind}
 use Rattle.lines.specs.Lines.{itemRow, itemRows}
 use Rattle.lines.proofs.Rows.{row-digest}
 use Rattle.sections.specs.Sections.{Near, itemDigests, itemSection}

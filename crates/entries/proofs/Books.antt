@@ -15,7 +15,7 @@ use Rattle.rules.proofs.Order.{or-iff, then-accepted, rows, first-accepted}
 use Rattle.segment.specs.declared.entry.Entry.{Entry}
 use Rattle.segment.specs.declared.extent.Extent.{Extent}
 use Rattle.segment.specs.Format.{Shape}
-use Rattle.segment.specs.Table.{allows}
+use Rattle.store.specs.Table.{allows}
 use Rattle.segment.specs.Keys.{freshKey}
 use Rattle.segment.specs.Write.{
   entryCount,
@@ -31,8 +31,8 @@ use Rattle.segment.specs.Write.{
   entryKey,
   requestRules,
 }
-use Rattle.order.specs.declared.Kind.the-variants.{Entries}
-use Rattle.order.specs.Items.{Item, Items, Stands, itemKey, itemHash, itemDigest, itemSpan, entrySpan}
+use Rattle.keys.specs.declared.Kind.the-variants.{Entries}
+use Rattle.keys.specs.Items.{Item, Items, Stands, itemKey, itemHash, itemDigest, itemSpan, entrySpan}
 use Rattle.order.proofs.Fresh.{keys-book}
 use Rattle.entries.specs.Asked.{MarksAsked, ListsAsked, PlacesAsked, TotalAsked, Asked, RequestAsked}
 

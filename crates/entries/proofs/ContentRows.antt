@@ -14,7 +14,7 @@ use Rattle.rules.proofs.Order.{tests, and-iff, was-true, was-false}
 use Rattle.segment.specs.declared.entry.Entry.{Entry}
 use Rattle.segment.specs.declared.extent.Extent.{Extent}
 use Rattle.segment.specs.Format.{v3}
-use Rattle.segment.specs.Table.{allows}
+use Rattle.store.specs.Table.{allows}
 use Rattle.segment.specs.Check.{sumLengths}
 use Rattle.segment.specs.Write.{listedExtent, extentsFrom, entryDigest, entryPlaces, allListedFit, entryTotal}
 

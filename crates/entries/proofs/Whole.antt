@@ -26,8 +26,8 @@ use Rattle.segment.specs.Write.{
   entryVerdict,
   requestRules,
 }
-use Rattle.order.specs.declared.Kind.the-variants.{Entries}
-use Rattle.order.specs.Items.{itemKey}
+use Rattle.keys.specs.declared.Kind.the-variants.{Entries}
+use Rattle.keys.specs.Items.{itemKey}
 use Rattle.entries.specs.Told.{contentsRules}
 use Rattle.entries.proofs.Books.{same-keys}
 

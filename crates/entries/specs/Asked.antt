@@ -9,7 +9,7 @@ use lib.ListN.{length}
 use Rattle.segment.specs.declared.entry.Entry.{Entry}
 use Rattle.segment.specs.declared.extent.Extent.{Extent}
 use Rattle.segment.specs.Format.{Shape, recordLimit}
-use Rattle.segment.specs.Table.{allows}
+use Rattle.store.specs.Table.{allows}
 use Rattle.segment.specs.Keys.{NoKeyTwice}
 use Rattle.segment.specs.Check.{sumLengths}
 use Rattle.segment.specs.Write.{entryCount, listedExtents, entryNo, entryExtents, entryKey, allListedFit}

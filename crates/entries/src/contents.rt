@@ -10,12 +10,11 @@ use crate::EXTENT;
 use rules::Refusal;
 use rules::Verdict;
 use segment::entry::Entry;
-use segment::table;
 
 fn check_digest(pairs: &[u64], e: Entry, k: usize) -> Verdict
     ensures { λ v. ⌜ v ≡ entryDigest (now (pairs .entry)) e k ⌝ }
 {
-    if !table::allows(pairs, e.hash_id, e.digest_length) {
+    if !store::allows(pairs, e.hash_id, e.digest_length) {
         return Verdict::Refused(Refusal::Digest(k as u64));
     }
     Verdict::Accepted

@@ -4,7 +4,7 @@ ghost use mathlib.Core.Path.{_≡_};
 ghost use Rattle.rules.specs.Rules.{firstOver};
 ghost use Rattle.segment.specs.Format.{v3};
 ghost use Rattle.segment.specs.Write.{entryCount, entryRules, entryVerdict, requestRules};
-use order::Kind;
+use keys::Kind;
 use rules::Refusal;
 use rules::Verdict;
 use segment::entry::Entry;

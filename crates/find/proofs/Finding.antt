@@ -21,13 +21,13 @@ use Rattle.rules.proofs.Order.{tests, was-true, was-false}
 use Rattle.segment.specs.declared.header.Header.{Header}
 use Rattle.segment.specs.declared.record.Record.{Record}
 use Rattle.segment.specs.Format.{v3, headerOf, recordOf, recordNo, recordCount, recordsOffset}
-use Rattle.segment.specs.Table.{goodTable, tableVerdict, allows}
+use Rattle.store.specs.Table.{goodTable, tableVerdict, allows}
 use Rattle.segment.specs.Keys.{keyOf, eqList}
 use Rattle.segment.specs.Check.{isGone, digestIn, keyNo, segmentVerdict}
 use Rattle.segment.specs.Meaning.{sourceOf}
 use Rattle.segment.specs.LookUp.{keyVerdict, recordFound, _orElse_, foundOver, foundNo, foundIn, foundUnder, lookedUp, lookUpOf}
-use Rattle.order.specs.declared.Kind.the-variants.{Records}
-use Rattle.order.specs.Items.{itemKey, itemHash, itemDigest, itemSpan, recordSpan}
+use Rattle.keys.specs.declared.Kind.the-variants.{Records}
+use Rattle.keys.specs.Items.{itemKey, itemHash, itemDigest, itemSpan, recordSpan}
 
 -- ---- one record
 

@@ -9,7 +9,7 @@ ghost use Rattle.segment.specs.Keys.{keyOf};
 ghost use Rattle.segment.specs.Check.{segmentVerdict};
 ghost use Rattle.segment.specs.Meaning.{sourceOf};
 ghost use Rattle.segment.specs.LookUp.{recordFound, foundIn, foundUnder, lookUpOf, extentsPart};
-use order::Kind;
+use keys::Kind;
 use rules::Found;
 use rules::Refusal;
 use rules::Source;
@@ -17,8 +17,7 @@ use rules::Verdict;
 use segment::extent::Extent;
 use segment::header::Header;
 use segment::record::Record;
-use segment::table;
-use segment::table::Table;
+use store::Table;
 
 fn source(imported: u8, domain: u32) -> Source
     ensures { λ r. ⌜ r ≡ sourceOf imported domain ⌝ }
@@ -61,7 +60,7 @@ fn find(pairs: &[u64], seg: &[u8], hash: u64, digest: &[u8]) -> Found
     let count = h.record_count as usize;
     let mut k = 0;
     while k < count {
-        if order::key_is(Kind::Records(first), seg, pairs, k, hash, digest) {
+        if keys::key_is(Kind::Records(first), seg, pairs, k, hash, digest) {
             return found(Record::at(seg, first + Record::SIZE * k));
         }
         k += 1;
@@ -73,7 +72,7 @@ fn find(pairs: &[u64], seg: &[u8], hash: u64, digest: &[u8]) -> Found
 fn look_up_under(pairs: &[u64], seg: &[u8], hash: u64, digest: &[u8]) -> Found
     ensures { λ r. ⌜ r ≡ foundUnder (now (pairs .entry)) (now (seg .entry)) hash (now (digest .entry)) ⌝ }
 {
-    if !table::allows(pairs, hash, digest.len() as u64) {
+    if !store::allows(pairs, hash, digest.len() as u64) {
         return Found::Refused(Refusal::Key);
     }
     match accept::check_segment(pairs, seg) {

@@ -15,7 +15,7 @@ use Rattle.numbers.specs.Numbers.{Bytes}
 use Rattle.segment.specs.declared.header.Heading.{Heading}
 use Rattle.segment.specs.declared.extent.Extent.{Extent}
 use Rattle.segment.specs.Format.{Shape, fileLimit, recordLimit, blockEnd}
-use Rattle.segment.specs.Table.{allows}
+use Rattle.store.specs.Table.{allows}
 use Rattle.segment.specs.Check.{sumLengths}
 use Rattle.segment.specs.Meaning.{State, gone, live, Row, rowKey, Meaning}
 use Rattle.segment.specs.Tidy.{domainOf, formOf, tidyForm}

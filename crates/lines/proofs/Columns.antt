@@ -14,8 +14,8 @@ use Rattle.segment.specs.Format.{v3, inBlock, recordOf, extentOf}
 use Rattle.segment.specs.Check.{sumLengths}
 use Rattle.segment.specs.Tidy.{packed, extentFields}
 use Rattle.segment.specs.Write.{entryNo, listedExtent, extentsFrom}
-use Rattle.order.specs.declared.Kind.{Kind}
-use Rattle.order.specs.declared.Kind.the-variants.{Records, Entries}
+use Rattle.keys.specs.declared.Kind.{Kind}
+use Rattle.keys.specs.declared.Kind.the-variants.{Records, Entries}
 use Rattle.lines.specs.Lines.{recordEntry, itemEntry, itemExtent, Held, itemTotal, Line}
 
 -- ---- an item's numbers

@@ -8,7 +8,7 @@ use native.Mathlib.Omega.{arith}
 use lib.ListN.{length, getD, drop, drop-of-length-le}
 use lib.Seq.{drop-cons}
 use Rattle.segment.specs.declared.entry.Entry.{Entry}
-use Rattle.order.specs.declared.Kind.{Kind}
+use Rattle.keys.specs.declared.Kind.{Kind}
 use Rattle.order.specs.Order.{Each}
 use Rattle.order.proofs.Each.{each-at}
 use Rattle.lines.specs.declared.Sizes.{Sizes}

@@ -21,10 +21,11 @@ use Rattle.segment.specs.Tidy.{importedOf, domainOf, flagsOf, placeOf, recordFo
 use Rattle.segment.specs.Write.{entryNo, entryDigestBytes, extentsFrom, entryRow}
 use Rattle.segment.proofs.Extents.{listed-counted}
 use Rattle.form.proofs.Meanings.{extents-counted}
-use Rattle.order.specs.declared.Kind.{Kind}
-use Rattle.order.specs.declared.Kind.the-variants.{Records, Entries}
-use Rattle.order.specs.Items.{recordSpan, entrySpan, itemHash, itemSpan, itemDigest, itemKey, Item}
-use Rattle.order.specs.Order.{Each, itemLeq}
+use Rattle.keys.specs.declared.Kind.{Kind}
+use Rattle.keys.specs.declared.Kind.the-variants.{Records, Entries}
+use Rattle.keys.specs.Items.{recordSpan, entrySpan, itemHash, itemSpan, itemDigest, itemKey, Item}
+use Rattle.keys.specs.Lex.{itemLeq}
+use Rattle.order.specs.Order.{Each}
 use Rattle.lines.specs.Lines.{recordEntry, itemEntry, itemExtents, itemTotal, extentsOfEntry, rowOfEntry, itemRow, itemRows, Counted, Line, Lines, recordOfEntry, measured}
 
 -- ---- an item's key is its row's

@@ -20,9 +20,9 @@ use Rattle.segment.specs.Format.{v3, inFile, recordOf, extentOf, extentsAt}
 use Rattle.segment.specs.Check.{sumLengths}
 use Rattle.segment.specs.Meaning.{gone, live, Row, sourceOf}
 use Rattle.segment.specs.Write.{entryNo, listedExtent, extentsFrom}
-use Rattle.order.specs.declared.Kind.{Kind}
-use Rattle.order.specs.declared.Kind.the-variants.{Records, Entries}
-use Rattle.order.specs.Items.{Item}
+use Rattle.keys.specs.declared.Kind.{Kind}
+use Rattle.keys.specs.declared.Kind.the-variants.{Records, Entries}
+use Rattle.keys.specs.Items.{Item}
 use Rattle.order.specs.Order.{Each}
 use Rattle.lines.specs.declared.Sizes.{Sizes}
 

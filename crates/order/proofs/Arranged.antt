@@ -13,11 +13,12 @@ use Rattle.rules.specs.declared.Verdict.the-variants.{Accepted}
 use Rattle.rules.specs.Rules.{firstOver}
 use Rattle.rules.proofs.Order.{by-test, first-accepted}
 use Rattle.segment.specs.Keys.{freshKey, insert, sortBy}
-use Rattle.order.specs.declared.Kind.{Kind}
-use Rattle.order.specs.Items.{itemKey}
-use Rattle.order.specs.Order.{itemLeq, Each, Ascending}
+use Rattle.keys.specs.declared.Kind.{Kind}
+use Rattle.keys.specs.Items.{itemKey}
+use Rattle.keys.specs.Lex.{itemLeq}
+use Rattle.order.specs.Order.{Each, Ascending}
 use Rattle.order.proofs.Each.{each-permuted}
-use Rattle.order.proofs.Equal.{eqList-iff, stands-earlier}
+use Rattle.keys.proofs.Equal.{eqList-iff, stands-earlier}
 use Rattle.order.proofs.Lex.{lex-anti}
 use Rattle.order.proofs.Sorting.{Total}
 

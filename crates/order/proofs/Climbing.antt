@@ -12,9 +12,10 @@ use Rattle.rules.specs.declared.Verdict.the-variants.{Accepted}
 use Rattle.rules.specs.Rules.{firstOver}
 use Rattle.rules.proofs.Order.{by-test, and-iff}
 use Rattle.segment.specs.Keys.{lexLeq, freshKey}
-use Rattle.order.specs.declared.Kind.{Kind}
-use Rattle.order.specs.Items.{itemKey}
-use Rattle.order.specs.Order.{itemLeq, climbs}
+use Rattle.keys.specs.declared.Kind.{Kind}
+use Rattle.keys.specs.Items.{itemKey}
+use Rattle.keys.specs.Lex.{itemLeq}
+use Rattle.order.specs.Order.{climbs}
 use Rattle.order.proofs.Fresh.{keys-book}
 use Rattle.order.proofs.Lex.{lex-refl, item-order}
 use Rattle.order.proofs.Sorting.{Total}

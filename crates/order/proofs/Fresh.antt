@@ -12,7 +12,7 @@ use Rattle.rules.specs.declared.Verdict.the-variants.{Accepted, Refused}
 use Rattle.rules.specs.Rules.{firstOver, someBelow}
 use Rattle.rules.proofs.Order.{never-both, must-not, first-accepted, first-refused, first-is-lowest, some-found, some-at}
 use Rattle.segment.specs.Keys.{sameKey, freshKey, EarlierKey, FirstTwice, NoKeyTwice}
-use Rattle.order.proofs.Equal.{eqList-iff, stands-earlier}
+use Rattle.keys.proofs.Equal.{eqList-iff, stands-earlier}
 
 module _ (key : ℕ → List ℕ) where
   same-iff : (i j : ℕ) → sameKey key i j ≡ true ↔ key i ≡ key j

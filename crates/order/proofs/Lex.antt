@@ -11,9 +11,9 @@ use borrow.Author.Tests.{lt-ltb, le-ltb, ltb-true, ltb-false, eqb-true, eqb-fals
 use lib.Dec.{ltb, eqb}
 use Rattle.rules.proofs.Order.{by-test}
 use Rattle.segment.specs.Keys.{lexLeq}
-use Rattle.order.specs.declared.Kind.{Kind}
-use Rattle.order.specs.Items.{itemKey}
-use Rattle.order.specs.Order.{itemLeq}
+use Rattle.keys.specs.declared.Kind.{Kind}
+use Rattle.keys.specs.Items.{itemKey}
+use Rattle.keys.specs.Lex.{itemLeq}
 use Rattle.order.proofs.Sorting.{clash, Total}
 
 module _ (x y : ℕ) (xs ys : List ℕ) where

@@ -1,7 +1,4 @@
-pub mod Arms
-pub mod Equal
 pub mod Fresh
-pub mod Compare
 pub mod Lex
 pub mod Sorting
 pub mod Each

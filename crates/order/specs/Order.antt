@@ -1,7 +1,4 @@
--- The order of keys, and what is made by it: a test of two items, a merge, an ascending list.
---   lex, notGreater    how two lists of numbers stand to each other, number by number and the shorter first; whether the first of
---                      two comes no later
---   itemLeq            whether an item's key comes no later than another's
+-- What is made by an order of items: keys that climb, a merge, an ascending list.
 --   climbs             whether each of some items comes before the next
 --   Each, Readable     what holds of each element; numbers of items that can be read
 --   mergeBy, leftNext  two lists in one, and whether the left one gives the next element
@@ -11,26 +8,8 @@ use Prim.Native.Nat.{ℕ, zero, suc}
 use mathlib.Core.Path.{_≡_}
 use mathlib.Core.Bool.{Bool, true, false, cond, not, _&&_}
 use mathlib.Core.List.{List, [], _∷_}
-use lib.Dec.{ltb}
-use Rattle.segment.specs.Keys.{lexLeq}
-use Rattle.order.specs.declared.Kind.{Kind}
-use Rattle.order.specs.declared.Compared.{Compared}
-use Rattle.order.specs.declared.Compared.the-variants.{Less, Equal, Greater}
-use Rattle.order.specs.Items.{itemKey, Item}
-
-unfoldable pub lex : List ℕ → List ℕ → Compared
-lex [] [] = Equal
-lex [] (y ∷ ys) = Less
-lex (x ∷ xs) [] = Greater
-lex (x ∷ xs) (y ∷ ys) = cond (ltb x y) Less (cond (ltb y x) Greater (lex xs ys))
-
-unfoldable pub notGreater : Compared → Bool
-notGreater Less = true
-notGreater Equal = true
-notGreater Greater = false
-
-unfoldable pub itemLeq : Kind → List ℕ → List ℕ → ℕ → ℕ → Bool
-itemLeq kind bytes list i j = lexLeq (itemKey kind bytes list i) (itemKey kind bytes list j)
+use Rattle.keys.specs.declared.Kind.{Kind}
+use Rattle.keys.specs.Items.{Item}
 
 -- of 0, 1, .. below n, each comes before the next: the next does not come as early
 unfoldable pub climbs : (ℕ → ℕ → Bool) → ℕ → Bool

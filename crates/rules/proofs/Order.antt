@@ -76,6 +76,10 @@ pub then-accepted : (a b : Verdict) → (a then b) ≡ Accepted ↔ (a ≡ Accep
 then-accepted Accepted b = (λ e. (refl, e), λ e. e .1)
 then-accepted (Refused r) b = (λ e. (e, cc), λ e. e .0)
 
+pub then-assoc : (a b c : Verdict) → ((a then b) then c) ≡ (a then (b then c))
+then-assoc Accepted b c = refl
+then-assoc (Refused x) b c = refl
+
 pub ruleset rows = (then-accepted, must-accepted, leb-iff, ltb-iff, eqb-iff)
 
 -- the first refusal wins: the second verdict speaks only where the first accepts

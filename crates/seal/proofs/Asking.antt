@@ -12,11 +12,11 @@ use Rattle.rules.specs.declared.Refusal.the-variants.{Table as TableWrong}
 use Rattle.rules.specs.declared.Verdict.the-variants.{Accepted}
 use Rattle.segment.specs.declared.header.Heading.{Heading}
 use Rattle.segment.specs.Format.{v3}
-use Rattle.segment.specs.Table.{goodTable, tableVerdict}
+use Rattle.store.specs.Table.{goodTable, tableVerdict}
 use Rattle.segment.specs.Tidy.{tidyForm, settled, outcome}
 use Rattle.segment.specs.Write.{Request, entryCount, entryNo, entryRow, entryDigestBytes, requestRules, requestVerdict, requested, wrote, writeOf}
-use Rattle.segment.proofs.Pairs.{allowed-small}
-use Rattle.order.specs.declared.Kind.the-variants.{Entries}
+use Rattle.store.proofs.Pairs.{allowed-small}
+use Rattle.keys.specs.declared.Kind.the-variants.{Entries}
 use Rattle.lines.specs.Lines.{itemEntry, itemExtents, Held, itemTotal, extentsOfEntry, rowOfEntry, itemRow, Line}
 use Rattle.entries.proofs.Books.{request-book, request-items}
 use Rattle.arrange.specs.Arrange.{AllLines, itemsForm}

@@ -3,18 +3,18 @@ ghost use mathlib.Core.Path.{_≡_};
 ghost use mathlib.Core.Bool.{true};
 ghost use lib.ListN.{length};
 ghost use Rattle.segment.specs.Format.{v3};
-ghost use Rattle.segment.specs.Table.{goodTable};
+ghost use Rattle.store.specs.Table.{goodTable};
 ghost use Rattle.segment.specs.Tidy.{tidyForm, outcome};
 ghost use Rattle.segment.specs.Write.{requestRules, requested, writeOf};
 ghost use Rattle.emit.specs.Emit.{Left};
 ghost use Rattle.seal.specs.Seal.{asked};
-use order::Kind;
+use keys::Kind;
 use rules::Refusal;
 use rules::Verdict;
 use rules::Written;
 use segment::entry::Entry;
 use segment::header::Heading;
-use segment::table::Table;
+use store::Table;
 
 // Everything but the table.
 fn write_under(

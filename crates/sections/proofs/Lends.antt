@@ -8,7 +8,7 @@ use borrow.Rule.Slice.PartMut.{putMid}
 use lib.ListN.{length, take, drop, replicate, drop-of-length-le, length-append, length-drop}
 use lib.Seq.{take-at, drop-at, drop-drop, length-take-le}
 use Rattle.segment.specs.Tidy.{lacking}
-use Rattle.order.specs.declared.Kind.{Kind}
+use Rattle.keys.specs.declared.Kind.{Kind}
 use Rattle.sections.specs.Sections.{itemDigests, itemSection}
 
 -- s is done, and then the part q from m to e

@@ -16,8 +16,8 @@ use Rattle.segment.specs.Format.{extentOf, extentsAt}
 use Rattle.segment.specs.Tidy.{packed, extentFields, extentListBytes}
 use Rattle.segment.specs.Write.{listedExtent, extentsFrom}
 use Rattle.form.proofs.Structures.{extent-long, extents-long}
-use Rattle.order.specs.declared.Kind.{Kind}
-use Rattle.order.specs.declared.Kind.the-variants.{Records, Entries}
+use Rattle.keys.specs.declared.Kind.{Kind}
+use Rattle.keys.specs.declared.Kind.the-variants.{Records, Entries}
 use Rattle.lines.specs.Lines.{Held, itemExtent, itemExtents}
 use Rattle.lines.proofs.Rows.{extents-length, extents-none}
 

@@ -17,8 +17,8 @@ use Rattle.segment.specs.Tidy.{packed, recordFields, recordsBytes, extentListBy
 use Rattle.form.proofs.Structures.{extents-long}
 use Rattle.form.proofs.Shapes.{v3-shaped, record-long}
 use Rattle.form.proofs.Sizes.{records-long}
-use Rattle.order.specs.declared.Kind.{Kind}
-use Rattle.order.specs.Items.{itemDigest}
+use Rattle.keys.specs.declared.Kind.{Kind}
+use Rattle.keys.specs.Items.{itemDigest}
 use Rattle.order.proofs.Each.{each-at}
 use Rattle.lines.specs.Lines.{itemEntry, itemExtents, Held, itemTotal, extentsOfEntry, itemRow, itemRows, Narrow, Line, Lines, recordOfEntry}
 use Rattle.lines.proofs.Rows.{extents-length, row-extents, row-count, row-digest-length, row-record}

@@ -9,8 +9,8 @@ use lib.ListN.{length, replicate}
 use Rattle.segment.specs.declared.header.Header.{Header}
 use Rattle.segment.specs.Format.{recordLimit, fileLimit, digestsOffset, extentsOffset}
 use Rattle.segment.specs.Tidy.{lacking}
-use Rattle.order.specs.declared.Kind.{Kind}
-use Rattle.order.specs.Items.{itemDigest}
+use Rattle.keys.specs.declared.Kind.{Kind}
+use Rattle.keys.specs.Items.{itemDigest}
 
 pub record Near (h : Header) (numbers : List ℕ) : Type 0 where
   pub few : length numbers ≤ recordLimit

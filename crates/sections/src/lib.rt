@@ -6,11 +6,11 @@ ghost use lib.ListN.{length, replicate};
 ghost use Rattle.numbers.specs.Numbers.{put};
 ghost use Rattle.segment.specs.Format.{v3, digestsOffset, extentsOffset};
 ghost use Rattle.segment.specs.Tidy.{recordsBytes, lacking, extentListBytes, extentBytes};
-ghost use Rattle.order.specs.Items.{Item};
+ghost use Rattle.keys.specs.Items.{Item};
 ghost use Rattle.order.specs.Order.{Each};
 ghost use Rattle.lines.specs.Lines.{Held, itemExtents, itemRows, Lines};
 ghost use Rattle.sections.specs.Sections.{Near, itemDigests, itemSection};
-use order::Kind;
+use keys::Kind;
 use segment::extent::Extent;
 use segment::header::Header;
 use segment::record::Record;
@@ -79,7 +79,7 @@ fn put_digests(kind: Kind, bytes: &[u8], list: &[u64], numbers: &[u16], out: &mu
     let mut at = 0;
     let mut k = 0;
     while k < numbers.len() {
-        let digest = order::digest(kind, bytes, list, numbers[k] as usize);
+        let digest = keys::digest(kind, bytes, list, numbers[k] as usize);
         copy_bytes(digest, at, out);
         at += digest.len();
         k += 1;

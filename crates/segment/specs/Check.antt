@@ -51,7 +51,7 @@ use Rattle.segment.specs.Format.{
   recordNo,
   extentsIn,
 }
-use Rattle.segment.specs.Table.{tableVerdict, allows}
+use Rattle.store.specs.Table.{tableVerdict, allows}
 use Rattle.segment.specs.Keys.{keyOf, freshKey}
 
 -- 1: shorter than 136 or longer than the limit

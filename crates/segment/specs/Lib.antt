@@ -1,5 +1,4 @@
 pub mod Format
-pub mod Table
 pub mod Keys
 pub mod Check
 pub mod Meets

@@ -18,7 +18,7 @@ use Rattle.rules.specs.Answers.{Answer, foundAnswer}
 use Rattle.segment.specs.declared.header.Header.{Header}
 use Rattle.segment.specs.declared.record.Record.{Record}
 use Rattle.segment.specs.Format.{Shape, v3, extentSize, headerOf, recordCount, recordNo}
-use Rattle.segment.specs.Table.{tableVerdict, allows}
+use Rattle.store.specs.Table.{tableVerdict, allows}
 use Rattle.segment.specs.Keys.{keyOf, eqList}
 use Rattle.segment.specs.Check.{isGone, keyNo, segmentVerdict}
 use Rattle.segment.specs.Meaning.{sourceOf}

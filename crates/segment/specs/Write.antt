@@ -20,7 +20,7 @@ use Rattle.segment.specs.declared.header.Heading.{Heading}
 use Rattle.segment.specs.declared.entry.Entry.{Entry}
 use Rattle.segment.specs.declared.extent.Extent.{Extent}
 use Rattle.segment.specs.Format.{Shape, v3, recordLimit, inBlock}
-use Rattle.segment.specs.Table.{tableVerdict, allows}
+use Rattle.store.specs.Table.{tableVerdict, allows}
 use Rattle.segment.specs.Keys.{keyOf, freshKey}
 use Rattle.segment.specs.Check.{extentFits, sumLengths}
 use Rattle.segment.specs.Meaning.{gone, live, Row, Meaning, sourceOf, countFrom}

@@ -1,12 +1,11 @@
 // The parts of a segment as document 01 lays them out: the four kinds with their sizes, the two kinds of offset,
-// one accessor for each field, and the store's table. What the fields and the services mean is written in specs/.
+// and one accessor for each field. What the fields and the services mean is written in specs/.
 pub mod entry;
 pub mod extent;
 pub mod footer;
 pub mod header;
 pub mod record;
 pub mod step;
-pub mod table;
 
 // A place in the file: how many bytes stand before it.
 pub struct FileOffset(pub u64);

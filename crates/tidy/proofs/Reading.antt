@@ -17,16 +17,16 @@ use Rattle.segment.specs.declared.header.Header.{Header}
 use Rattle.segment.specs.declared.header.Heading.{Heading}
 use Rattle.segment.specs.declared.record.Record.{Record}
 use Rattle.segment.specs.Format.{v3, headerOf, recordOf, recordNo, extentsAt, recordCount, recordsOffset, bloomSize}
-use Rattle.segment.specs.Table.{goodTable, tableVerdict}
+use Rattle.store.specs.Table.{goodTable, tableVerdict}
 use Rattle.segment.specs.Check.{sumLengths, digestIn, segmentVerdict, checked}
 use Rattle.segment.specs.Meets.{Meets}
 use Rattle.segment.specs.Meaning.{rowOf, rowNo, rowsOf, headingOf, meaningOf}
 use Rattle.segment.specs.Tidy.{tidyForm, settled, outcome, tidied, tidyOf}
-use Rattle.segment.proofs.Pairs.{allowed-small}
+use Rattle.store.proofs.Pairs.{allowed-small}
 use Rattle.form.proofs.Meanings.{num-fits}
 use Rattle.book.proofs.Book.{segment-book, under-table}
-use Rattle.order.specs.declared.Kind.the-variants.{Records}
-use Rattle.order.specs.Items.{Item, Stands, itemSpan, recordSpan}
+use Rattle.keys.specs.declared.Kind.the-variants.{Records}
+use Rattle.keys.specs.Items.{Item, Stands, itemSpan, recordSpan}
 use Rattle.lines.specs.Lines.{recordEntry, itemEntry, itemExtents, Held, itemTotal, extentsOfEntry, rowOfEntry, itemRow, Line}
 use Rattle.arrange.specs.Arrange.{AllLines, itemsForm}
 use Rattle.emit.specs.Emit.{Left}

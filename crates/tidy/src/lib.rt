@@ -4,19 +4,19 @@ ghost use mathlib.Core.Bool.{true};
 ghost use Prim.Native.Nat.{_≤_};
 ghost use lib.ListN.{length};
 ghost use Rattle.segment.specs.Format.{v3};
-ghost use Rattle.segment.specs.Table.{goodTable};
+ghost use Rattle.store.specs.Table.{goodTable};
 ghost use Rattle.segment.specs.Check.{segmentVerdict};
 ghost use Rattle.segment.specs.Meaning.{headingOf, meaningOf};
 ghost use Rattle.segment.specs.Tidy.{tidyForm, outcome, tidyOf};
 ghost use Rattle.emit.specs.Emit.{Left};
-use order::Kind;
+use keys::Kind;
 use rules::Refusal;
 use rules::Verdict;
 use rules::Written;
 use segment::footer::Footer;
 use segment::header::Header;
 use segment::header::Heading;
-use segment::table::Table;
+use store::Table;
 
 // The numbers of a segment that its tidy form keeps.
 fn heading_of(seg: &[u8], h: Header) -> Heading

@@ -11,9 +11,9 @@ use lib.Dec.{eqb}
 use lib.ListN.{take}
 use Rattle.rules.specs.Answers.{Answer}
 use Rattle.rules.proofs.Order.{by-test, and-iff, eqb-iff}
-use Rattle.segment.specs.declared.table.Tabled.{Tabled}
-use Rattle.segment.specs.Table.{stands, goodPairs, goodTable, allows, tabledOf}
-use Rattle.segment.proofs.Pairs.{Copied, is-copied}
+use Rattle.store.specs.declared.Tabled.{Tabled}
+use Rattle.store.specs.Table.{stands, goodPairs, goodTable, allows, tabledOf}
+use Rattle.store.proofs.Pairs.{Copied, is-copied}
 use Rattle.walk.specs.declared.pairs.Pair.{Pair}
 use Rattle.walk.specs.declared.pairs.Length.{Length}
 use Rattle.walk.specs.declared.pairs.Length.the-variants.{Known, Unknown}

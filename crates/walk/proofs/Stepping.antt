@@ -22,7 +22,7 @@ use Rattle.segment.specs.declared.record.Record.{Record}
 use Rattle.segment.specs.declared.step.Step.{Step}
 use Rattle.segment.specs.declared.step.Step.the-variants.{Row, Done, Refused}
 use Rattle.segment.specs.Format.{v3, headerOf, recordOf, recordNo, recordCount, recordsOffset}
-use Rattle.segment.specs.Table.{tableVerdict}
+use Rattle.store.specs.Table.{tableVerdict}
 use Rattle.segment.specs.Check.{segmentVerdict, checked, checkOf}
 use Rattle.segment.specs.Walk.{stepped, nextPlace, stepAnswer, stepOf}
 use Rattle.accept.proofs.Whole.{sound-of}

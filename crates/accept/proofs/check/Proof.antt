@@ -2,7 +2,7 @@
 use mathlib.Core.Path.{sym}
 use borrow.Author.Needs.{needs}
 use lib.Seq.{length-take-le}
-use Rattle.segment.proofs.Pairs.{Copied, not-copied, is-copied}
+use Rattle.store.proofs.Pairs.{Copied, not-copied, is-copied}
 use Rattle.accept.proofs.Whole.{table-bad, table-good}
 use Rattle.accept.proofs.check.Statement.{statement}
 use Rattle.accept.proofs.check.Tie as tie

@@ -1,4 +1,5 @@
 -- `accept::check_body` meets its contract: the checksum, and then the contents.
+use mathlib.Core.Path.{sym, _∙_}
 use borrow.Author.Needs.{needs}
 use native.Mathlib.Omega.{arith}
 use Rattle.accept.proofs.Whole.{checksum-stop, checksum-pass}
@@ -11,7 +12,7 @@ check-body-spec =
     (tie.spec
     (λ c κs. omega arith)
     (λ c. search needs)
-    (λ c. checksum-stop _ _ _ _ (cc))
+    (λ c. checksum-stop _ _ _ _ (sym (c .before .before .before .check-checksum .ensures) ∙ c .before .r .given .1))
     (λ c. search needs)
     (λ c κs. search needs)
-    (λ c. checksum-pass _ _ _ (cc) (c .check-contents .ensures)))
+    (λ c. checksum-pass _ _ _ (sym (c .before .before .before .check-checksum .ensures) ∙ c .before .enum-told .given .1) (c .check-contents .ensures)))

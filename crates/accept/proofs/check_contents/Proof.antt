@@ -1,4 +1,5 @@
 -- `accept::check_contents` meets its contract: the records, then the largest visibility, then the keys.
+use mathlib.Core.Path.{sym, _∙_}
 use borrow.Author.Needs.{needs}
 use native.Mathlib.Omega.{arith}
 use Rattle.accept.proofs.Whole.{contents-stop, shown-wrong, all-passed, records-stand, keys-told}
@@ -8,10 +9,13 @@ use Rattle.accept.proofs.check_contents.Tie as tie
 readable : tie.Need-check-keys-requires
 readable c κs =
     let at = c .before .before .before in
-    records-stand _ _ _ (at .before .before .before .before .before .pre) (all-passed _ _ _ (at .v .given .0 .0) (cc))
+    records-stand _ _ _ (at .before .before .before .before .before .pre)
+    (all-passed _ _ _ (at .v .given .0 .0) (sym (at .v .given .1) ∙ at .before .before .check-records .ensures))
 
 told : tie.Need-returns-3
-told c = keys-told _ _ _ (c .before .before .before .before .v .given .0 .0) (cc) (omega arith) (c .check-keys .ensures)
+told c =
+    let at = c .before .before .before .before in
+    keys-told _ _ _ (at .v .given .0 .0) (sym (at .v .given .1) ∙ at .before .before .check-records .ensures) (omega arith) (c .check-keys .ensures)
 
 pub check-contents-spec : {M : Type 1} → statement M
 check-contents-spec =
@@ -19,8 +23,8 @@ check-contents-spec =
     (tie.spec
     (λ c κs. search needs)
     (λ c. search needs)
-    (λ c. contents-stop _ _ _ _ (cc))
+    (λ c. contents-stop _ _ _ _ (sym (c .before .r .given .1) ∙ c .before .before .before .check-records .ensures))
     (λ c. search needs)
-    (λ c. shown-wrong _ _ _ (c .before .before .before .v .given .0 .0) (cc) (omega arith))
+    (λ c. let at = c .before .before .before in shown-wrong _ _ _ (at .v .given .0 .0) (sym (at .v .given .1) ∙ at .before .before .check-records .ensures) (omega arith))
     readable
     told)

@@ -1,7 +1,9 @@
 -- `accept::check_rules` meets its contract: the header, and then the rest.
+use mathlib.Core.Path.{sym, _∙_}
 use borrow.Author.Needs.{needs}
 use native.Mathlib.Omega.{arith}
-use Rattle.accept.proofs.Whole.{header-stop, header-pass, laid-of}
+use Rattle.heads.proofs.Whole.{laid-of}
+use Rattle.accept.proofs.Whole.{header-stop, header-pass}
 use Rattle.accept.proofs.check_rules.Statement.{statement}
 use Rattle.accept.proofs.check_rules.Tie as tie
 
@@ -11,7 +13,7 @@ check-rules-spec =
     (tie.spec
     (λ c κs. search needs)
     (λ c. search needs)
-    (λ c. header-stop _ _ _ _ (cc))
+    (λ c. header-stop _ _ _ _ (sym (c .before .before .before .check-header .ensures) ∙ c .before .r .given .1))
     (λ c. search needs)
-    (λ c κs. laid-of _ _ (cc) (omega arith))
-    (λ c. header-pass _ _ _ (cc) (c .check-body .ensures)))
+    (λ c κs. laid-of _ _ (sym (c .before .before .check-header .ensures) ∙ c .enum-told .given .1) (omega arith))
+    (λ c. header-pass _ _ _ (sym (c .before .before .before .check-header .ensures) ∙ c .before .enum-told .given .1) (c .check-body .ensures)))

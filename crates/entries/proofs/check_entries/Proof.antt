@@ -1,6 +1,6 @@
 -- `entries::check_entries` meets its contract: nothing is refused below k.
 use Prim.Native.Nat.{_≤_, _-_}
-use mathlib.Core.Path.{_≡_}
+use mathlib.Core.Path.{_≡_, sym, _∙_}
 use borrow.Author.Needs.{needs}
 use native.Mathlib.Omega.{arith}
 use Rattle.rules.specs.declared.Verdict.the-variants.{Accepted}
@@ -20,13 +20,16 @@ abbrev μ-loop : tie.MeasureT-loop
 
 refused : tie.Need-returns Inv-loop μ-loop
 refused c =
-    let read = c .before .before .before .before in
-    entry-refused _ _ _ _ _ (read .before .before .loop .inv .1) _ (read .at .ensures) _ _ (omega arith) (cc)
+    let said = c .before .before .before in
+    let read = said .before in
+    entry-refused _ _ _ _ _ (read .before .before .loop .inv .1) _ (read .at .ensures) _ _ (omega arith)
+    (sym (said .check-entry .ensures) ∙ c .before .x .given .1)
 
 passed : tie.Need-loop-again Inv-loop μ-loop
 passed c =
-    let read = c .before .before .before in
-    (omega arith, entry-passed _ _ _ _ _ (read .before .before .loop .inv .1) _ (read .at .ensures) (cc))
+    let said = c .before .before in
+    let read = said .before in
+    (omega arith, entry-passed _ _ _ _ _ (read .before .before .loop .inv .1) _ (read .at .ensures) (sym (said .check-entry .ensures) ∙ c .enum-told .given .1))
 
 pub check-entries-spec : {M : Type 1} → statement M
 check-entries-spec =

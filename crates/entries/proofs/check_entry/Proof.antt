@@ -12,11 +12,18 @@ check-entry-spec =
     (tie.spec
     (λ c κs. search needs)
     (λ c. search needs)
-    (λ c. first-stops (entry-three _ _ _ _ _) (cc))
+    (λ c. first-stops (entry-three _ _ _ _ _) (sym (c .before .before .before .check-marks .ensures) ∙ c .before .x .given .1))
     (λ c. search needs)
     (λ c κs. search needs)
     (λ c. search needs)
-    (λ c. second-stops (entry-three _ _ _ _ _) (cc) (cc))
+    (λ c.
+    let second = c .before .before .before in
+    let first = second .before in
+    second-stops (entry-three _ _ _ _ _) (sym (first .before .before .check-marks .ensures) ∙ first .enum-told .given .1) (sym (second .check-lists .ensures) ∙ c .before .x2 .given .1))
     (λ c. search needs)
-    (λ c κs. lists-book _ _ _ _ .0 (sym (c .before .before .check-lists .ensures) ∙ (cc)) .slices)
-    (λ c. third-tells (entry-three _ _ _ _ _) (cc) (cc) (c .check-contents .ensures)))
+    (λ c κs. lists-book _ _ _ _ .0 (sym (c .before .before .check-lists .ensures) ∙ c .enum-told2 .given .1) .slices)
+    (λ c.
+    let second = c .before in
+    let first = second .before .before .before in
+    third-tells (entry-three _ _ _ _ _) (sym (first .before .before .check-marks .ensures) ∙ first .enum-told .given .1)
+    (sym (second .before .before .check-lists .ensures) ∙ second .enum-told2 .given .1) (c .check-contents .ensures)))

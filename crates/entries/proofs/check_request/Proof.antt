@@ -8,7 +8,7 @@ use Rattle.entries.proofs.check_request.Statement.{statement}
 use Rattle.entries.proofs.check_request.Tie as tie
 
 readable : tie.Need-check-keys-requires
-readable c κs = entries-stand _ _ _ _ _ (entries-book _ _ _ _ _ _ .0 (sym (c .before .before .check-entries .ensures) ∙ (cc)))
+readable c κs = entries-stand _ _ _ _ _ (entries-book _ _ _ _ _ _ .0 (sym (c .before .before .check-entries .ensures) ∙ c .enum-told .given .1))
 
 pub check-request-spec : {M : Type 1} → statement M
 check-request-spec =
@@ -18,7 +18,7 @@ check-request-spec =
     (λ c. bloom-odd _ _ _ _ _ (omega arith) (omega arith))
     (λ c κs. search needs)
     (λ c. search needs)
-    (λ c. entries-stop _ _ _ _ _ (omega arith) (omega arith) _ (cc))
+    (λ c. entries-stop _ _ _ _ _ (omega arith) (omega arith) _ (sym (c .before .before .before .check-entries .ensures) ∙ c .before .x .given .1))
     (λ c. search needs)
     readable
-    (λ c. keys-told _ _ _ _ _ (omega arith) (omega arith) (cc) (c .check-keys .ensures)))
+    (λ c. keys-told _ _ _ _ _ (omega arith) (omega arith) (sym (c .before .before .before .check-entries .ensures) ∙ c .before .enum-told .given .1) (c .check-keys .ensures)))

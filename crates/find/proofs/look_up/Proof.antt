@@ -2,7 +2,7 @@
 use mathlib.Core.Path.{sym}
 use borrow.Author.Needs.{needs}
 use lib.Seq.{length-take-le}
-use Rattle.segment.proofs.Pairs.{Copied, not-copied, is-copied}
+use Rattle.store.proofs.Pairs.{Copied, not-copied, is-copied}
 use Rattle.find.proofs.Finding.{table-bad, table-good}
 use Rattle.find.proofs.look_up.Statement.{statement}
 use Rattle.find.proofs.look_up.Tie as tie

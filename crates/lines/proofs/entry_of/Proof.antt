@@ -1,7 +1,7 @@
 -- `lines::entry_of` meets its contract: each kind's own numbers.
 use native.Mathlib.Omega.{arith}
 use borrow.Author.Needs.{needs}
-use Rattle.order.proofs.Arms.{record-stands, entry-stands}
+use Rattle.keys.proofs.Arms.{record-stands, entry-stands}
 use Rattle.lines.proofs.Columns.{record-entry, entry-entry}
 use Rattle.lines.proofs.entry_of.Statement.{statement}
 use Rattle.lines.proofs.entry_of.Tie as tie

@@ -1,7 +1,7 @@
 -- `lines::total_of` meets its contract: each kind's own total.
 use native.Mathlib.Omega.{arith}
 use borrow.Author.Needs.{needs}
-use Rattle.order.proofs.Arms.{record-stands, entry-stands}
+use Rattle.keys.proofs.Arms.{record-stands, entry-stands}
 use Rattle.lines.proofs.Columns.{record-total, listed-held, listed-fits, entry-total}
 use Rattle.lines.proofs.total_of.Statement.{statement}
 use Rattle.lines.proofs.total_of.Tie as tie

@@ -2,7 +2,7 @@
 use Prim.Native.Nat.{_-_}
 use mathlib.Core.Path.{sym, _∙_}
 use native.Mathlib.Omega.{arith}
-use Rattle.order.specs.Order.{itemLeq}
+use Rattle.keys.specs.Lex.{itemLeq}
 use Rattle.order.proofs.Climbing.{Climbing, climbing-start, climbing-more, falls, climbed}
 use Rattle.order.proofs.keys_climb.Statement.{statement}
 use Rattle.order.proofs.keys_climb.Tie as tie

@@ -5,7 +5,8 @@ use mathlib.Core.List.{_++_}
 use native.Mathlib.Omega.{arith}
 use lib.ListN.{length, take, drop}
 use borrow.Author.Needs.{needs}
-use Rattle.order.specs.Order.{itemLeq, mergeBy}
+use Rattle.keys.specs.Lex.{itemLeq}
+use Rattle.order.specs.Order.{mergeBy}
 use Rattle.order.proofs.Merging.{left-stands, right-stands, merge-starts, next-left, next-right, merged}
 use Rattle.order.proofs.merge.Statement.{statement}
 use Rattle.order.proofs.merge.Tie as tie

@@ -1,6 +1,6 @@
 -- `order::scan_keys` meets its contract: every item passed is new, and the item at hand equals none of those passed in the inner loop.
 use Prim.Native.Nat.{_≤_, _-_}
-use mathlib.Core.Path.{_≡_, sym}
+use mathlib.Core.Path.{_≡_, sym, _∙_}
 use mathlib.Core.Bool.{false}
 use mathlib.Core.Logic.{⊎-elim}
 use native.Mathlib.Omega.{arith}
@@ -9,8 +9,8 @@ use Rattle.rules.specs.declared.Verdict.the-variants.{Accepted}
 use Rattle.rules.specs.Rules.{firstOver, someBelow}
 use Rattle.rules.proofs.Order.{first-none, first-more, first-refused, none-yet, some-more}
 use Rattle.segment.specs.Keys.{sameKey, freshKey}
-use Rattle.order.specs.Items.{itemKey}
-use Rattle.order.proofs.Equal.{stands-earlier, is-new}
+use Rattle.keys.specs.Items.{itemKey}
+use Rattle.keys.proofs.Equal.{stands-earlier, is-new}
 use Rattle.order.proofs.scan_keys.Statement.{statement}
 use Rattle.order.proofs.scan_keys.Tie as tie
 
@@ -41,7 +41,7 @@ duplicate c =
     let p = c .before .before .pairs in
     ⊎-elim
     (λ w. absurd (omega arith))
-    (λ w. rw (w .5) (sym (first-refused _ (p .i) _ _ (omega arith) (p .inv .1) (stands-earlier _ _ (w .1 .j) (omega arith) (cc)))))
+    (λ w. rw (w .5) (sym (first-refused _ (p .i) _ _ (omega arith) (p .inv .1) (stands-earlier _ _ (w .1 .j) (omega arith) (sym (w .3 .ensures) ∙ w .4 .taken)))))
     (c .before .if1 .came)
 
 all-new : tie.Need-returns-2 Inv-loop μ-loop Inv-pairs μ-pairs
@@ -64,7 +64,7 @@ scan-keys-spec =
     can-read
     (λ c. search needs)
     (λ c. search needs)
-    (λ c. (omega arith, some-more _ _ (c .before .before .before .loop .inv .1) (cc)))
+    (λ c. (omega arith, some-more _ _ (c .before .before .before .loop .inv .1) (sym (c .before .same-key .ensures) ∙ c .if2 .left)))
     (λ c. search needs)
     (λ c. search needs)
     new

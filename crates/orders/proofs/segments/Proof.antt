@@ -4,7 +4,7 @@ use Rattle.numbers.specs.Numbers.{le, numAt}
 use Rattle.crc64.specs.Crc.{step, steps, byte, run, crc}
 use Rattle.rules.specs.Rules.{firstOver, someBelow}
 use Rattle.segment.specs.Format.{headerOf, recordOf, extentOf, footerOf, recordNo, extentsAt}
-use Rattle.segment.specs.Table.{stands, goodPairs, goodTable, allows, tableVerdict}
+use Rattle.store.specs.Table.{stands, goodPairs, goodTable, allows, tableVerdict}
 use Rattle.segment.specs.Keys.{eqList, freshKey}
 use Rattle.segment.specs.Check.{
   sizeVerdict,

@@ -2,8 +2,8 @@
 use mathlib.Core.Path.{sym, ap, _∙_}
 use borrow.Author.Needs.{needs}
 use lib.Seq.{length-take-le}
-use Rattle.segment.specs.Table.{goodTable}
-use Rattle.segment.proofs.Pairs.{Copied, not-copied, is-copied}
+use Rattle.store.specs.Table.{goodTable}
+use Rattle.store.proofs.Pairs.{Copied, not-copied, is-copied}
 use Rattle.seal.proofs.Asking.{table-bad, table-good}
 use Rattle.seal.proofs.write.Statement.{statement}
 use Rattle.seal.proofs.write.Tie as tie

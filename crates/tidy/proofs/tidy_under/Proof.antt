@@ -1,6 +1,6 @@
 -- `tidy::tidy_under` meets its contract: the segment's first refusal, or its records in tidy order.
 use Prim.Native.Nat.{_+_, _≤_}
-use mathlib.Core.Path.{_≡_, refl}
+use mathlib.Core.Path.{_≡_, refl, sym, _∙_}
 use native.Mathlib.Omega.{arith}
 use borrow.Author.Needs.{needs}
 use lib.ListN.{length}
@@ -15,7 +15,7 @@ use Rattle.tidy.proofs.tidy_under.Tie as tie
 
 module _ (c : tie.After-enum-told) where
   accepted : segmentVerdict v3 (c .before .before .before .before .before .before .args .pairs .now) (c .before .before .before .before .before .before .args .seg .now) ≡ Accepted
-  accepted = cc
+  accepted = sym (c .before .before .check-segment .ensures) ∙ c .enum-told .given .1
 
   bytes : Bytes (c .before .before .before .before .before .before .args .seg .now)
   bytes i = let f = c .before .before .before .before .shared-slice-known2 .given i in omega arith
@@ -33,7 +33,7 @@ tidy-under-spec =
     (tie.spec
     (λ c κs. search needs)
     (λ c. search needs)
-    (λ c. left-refused _ _ _ _ (cc))
+    (λ c. left-refused _ _ _ _ (sym (c .before .before .before .check-segment .ensures) ∙ c .before .x .given .1))
     (λ c. search needs)
     (λ c κs. omega (arith, whole c))
     (λ c κs. whole (c .before))

@@ -1,0 +1,149 @@
+// The header's rules: 2, 3, 4 and 5, and the checksum, 6. Sums are compared by taking parts away, so nothing wraps.
+ghost use mathlib.Core.Path.{_≡_};
+ghost use Prim.Native.Nat.{_+_, _*_, _≤_};
+ghost use lib.Dec.{eqb};
+ghost use lib.ListN.{length};
+ghost use Rattle.segment.specs.Format.{v3};
+ghost use Rattle.segment.specs.Check.{headVerdict, bloomPlace, layoutVerdict, checksumVerdict};
+ghost use Rattle.heads.specs.Told.{headerRules};
+use rules::Refusal;
+use rules::Verdict;
+use segment::extent::Extent;
+use segment::footer;
+use segment::footer::Footer;
+use segment::header::Header;
+use segment::record::Record;
+
+// ASLIDX03
+const MAGIC: u64 = 0x3330_5844_494C_5341;
+
+// The sizes of the four kinds, as wide as the header's numbers; and the size that the header states.
+const HEADER: u64 = Header::SIZE as u64;
+
+const STATED: u32 = Header::SIZE as u32;
+
+const RECORD: u64 = Record::SIZE as u64;
+
+const EXTENT: u64 = Extent::SIZE as u64;
+
+const FOOTER: u64 = Footer::SIZE as u64;
+
+fn check_head(h: Header) -> Verdict
+    ensures { λ r. ⌜ r ≡ headVerdict v3 h ⌝ }
+{
+    if h.magic != MAGIC {
+        return Verdict::Refused(Refusal::Magic);
+    }
+    if h.version != 3 {
+        return Verdict::Refused(Refusal::Version);
+    }
+    if h.header_size != STATED {
+        return Verdict::Refused(Refusal::Header);
+    }
+    if h.federation != 0 {
+        return Verdict::Refused(Refusal::Header);
+    }
+    if h.reserved != 0 {
+        return Verdict::Refused(Refusal::Header);
+    }
+    if h.flags != 0 {
+        return Verdict::Refused(Refusal::Header);
+    }
+    if 1 < h.visibility {
+        return Verdict::Refused(Refusal::Header);
+    }
+    Verdict::Accepted
+}
+
+fn bloom_place(size: u64) -> u64
+    ensures { λ r. ⌜ r ≡ bloomPlace size ⌝ }
+{
+    if size == 0 { 0 } else { HEADER }
+}
+
+// Whether whole is a + b, over whole numbers.
+fn is_sum(whole: u64, a: u64, b: u64) -> bool
+    ensures { λ r. ⌜ r ≡ eqb whole (a + b) ⌝ }
+{
+    if whole < a {
+        return false;
+    }
+    whole - a == b
+}
+
+// Whether a file of n bytes ends as it should: count extents from a place on, and the footer.
+fn ends_so(n: u64, extents: u64, count: u64) -> bool
+    ensures { λ r. ⌜ r ≡ eqb n (extents + 16 * count + 24) ⌝ }
+{
+    if n < FOOTER {
+        return false;
+    }
+    let body = n - FOOTER;
+    if body < extents {
+        return false;
+    }
+    let rest = body - extents;
+    if rest % EXTENT != 0 {
+        return false;
+    }
+    rest / EXTENT == count
+}
+
+fn check_layout(h: Header, n: u64) -> Verdict
+    ensures { λ r. ⌜ r ≡ layoutVerdict v3 h n ⌝ }
+{
+    if h.bloom_offset.0 != bloom_place(h.bloom_size) {
+        return Verdict::Refused(Refusal::Layout);
+    }
+    if h.bloom_size % 8 != 0 {
+        return Verdict::Refused(Refusal::Layout);
+    }
+    if 65536 < h.record_count {
+        return Verdict::Refused(Refusal::Layout);
+    }
+    if !is_sum(h.records_offset.0, HEADER, h.bloom_size) {
+        return Verdict::Refused(Refusal::Layout);
+    }
+    if !is_sum(
+        h.digests_offset.0,
+        h.records_offset.0,
+        RECORD * h.record_count,
+    ) {
+        return Verdict::Refused(Refusal::Layout);
+    }
+    if h.digests_size % 8 != 0 {
+        return Verdict::Refused(Refusal::Layout);
+    }
+    if !is_sum(h.extents_offset.0, h.digests_offset.0, h.digests_size) {
+        return Verdict::Refused(Refusal::Layout);
+    }
+    if !ends_so(n, h.extents_offset.0, h.extent_count) {
+        return Verdict::Refused(Refusal::Layout);
+    }
+    Verdict::Accepted
+}
+
+// 2 to 5, of a file of n bytes.
+pub fn check_header(h: Header, n: u64) -> Verdict
+    ensures { λ r. ⌜ r ≡ headerRules h n ⌝ }
+{
+    match check_head(h) {
+        Verdict::Refused(r) => {
+            return Verdict::Refused(r);
+        }
+        Verdict::Accepted => {}
+    }
+    check_layout(h, n)
+}
+
+pub fn check_checksum(seg: &[u8]) -> Verdict
+    requires { ⌜ 24 ≤ length (now seg) ⌝ }
+    ensures { λ r. ⌜ r ≡ checksumVerdict (now (seg .entry)) ⌝ }
+{
+    let end = seg.len() - Footer::SIZE;
+    let stored = footer::checksum(seg, end);
+    if crc64::crc64_plain(&seg[..end]) != stored {
+        return Verdict::Refused(Refusal::Checksum);
+    }
+    Verdict::Accepted
+}
