@@ -1,0 +1,27 @@
+-- `columns::put_slice` meets its contract: column after column.
+use native.Mathlib.Omega.{arith}
+use borrow.Author.Needs.{needs}
+use Rattle.columns.specs.Columns.{sliceCells}
+use Rattle.columns.proofs.Laws.{three}
+use Rattle.columns.proofs.put_slice.Statement.{statement}
+use Rattle.columns.proofs.put_slice.Tie as tie
+
+returns : tie.Need-returns
+unfolding sliceCells
+returns c =
+    let third = c .before .before in
+    let second = third .before .before .before .before .before in
+    let first = second .before .before .before .before .before in
+    three (first .put-number .ensures) (second .put-number2 .ensures) (third .put-number3 .ensures) 63 (omega arith)
+
+pub put-slice-spec : {M : Type 1} → statement M
+put-slice-spec =
+    tie.close
+    (tie.spec
+    (λ c κs. search needs)
+    (λ c. search needs)
+    (λ c κs. search needs)
+    (λ c. search needs)
+    (λ c κs. search needs)
+    (λ c. search needs)
+    returns)
