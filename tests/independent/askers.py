@@ -4,8 +4,8 @@ An asker takes a list of cases and gives a list of answers. In the place of an a
 came stands a string that says why.
 """
 
-import io
 import subprocess
+import threading
 
 from case import Answer, answer_of
 from protocol import Ended, Reader, encode_case
@@ -41,12 +41,49 @@ def batches(cases):
         yield batch
 
 
+class Deadline:
+    """Kills a process that takes too long inside of a `with`."""
+
+    def __init__(self, process):
+        self.process = process
+        self.passed = False
+        self.timer = threading.Timer(BATCH_SECONDS, self.pass_)
+
+    def pass_(self):
+        self.passed = True
+        self.process.kill()
+
+    def __enter__(self):
+        self.timer.start()
+        return self
+
+    def __exit__(self, *_):
+        self.timer.cancel()
+
+
+def send(stream, data):
+    """Sends cases to a driver, which may end at any of them."""
+    try:
+        stream.write(data)
+        stream.flush()
+    except OSError:
+        pass
+
+
+def close(stream):
+    try:
+        stream.close()
+    except OSError:  # what could not be sent any more
+        pass
+
+
 class Driver:
-    """A driver command, and a listing command or None."""
+    """A driver command, started once for all its cases, and a listing command or None."""
 
     def __init__(self, command, listing=None):
         self.command = command
         self.listing = listing
+        self.process = None
         self.endings = 0
 
     def __call__(self, cases):
@@ -70,25 +107,40 @@ class Driver:
         string for an answer, and the cases after it are still to be asked."""
         if self.endings >= MOST_ENDINGS:
             return ["no answer: the driver was given up"] * len(batch)
+        if self.process is None:
+            self.process = subprocess.Popen(self.command, stdin=subprocess.PIPE,
+                                            stdout=subprocess.PIPE)
         sent = b"".join(encode_case(case) for case in batch)
-        try:
-            done = subprocess.run(self.command, input=sent, stdout=subprocess.PIPE,
-                                  timeout=BATCH_SECONDS, check=False)
-        except subprocess.TimeoutExpired:
-            self.endings = MOST_ENDINGS
-            return ["no answer: the driver took too long"] * len(batch)
-        reader = Reader(io.BytesIO(done.stdout))
-        answers = []
-        try:
-            for _ in batch:
-                answers.append(reader.answer())
-        except Ended:
-            self.endings += 1
-            return answers + [f"no answer: the driver ended with status {done.returncode}"]
-        if done.returncode != 0 or reader.stream.read(1):
-            self.endings += 1
-            answers[-1] = f"more than the answers, or status {done.returncode}"
+        sender = threading.Thread(target=send, args=(self.process.stdin, sent))
+        sender.start()
+        reader, answers = Reader(self.process.stdout), []
+        with Deadline(self.process) as deadline:
+            try:
+                for _ in batch:
+                    answers.append(reader.answer())
+            except Ended:
+                pass
+            sender.join()
+        if len(answers) < len(batch):
+            self.endings = MOST_ENDINGS if deadline.passed else self.endings + 1
+            status, _ = self.end()
+            answers.append(f"no answer: the driver ended with status {status}")
         return answers
+
+    def end(self):
+        """Ends the driver; gives its status and what it said after its answers."""
+        process, self.process = self.process, None
+        with Deadline(process), process:
+            close(process.stdin)
+            rest = process.stdout.read()
+            return process.wait(), rest
+
+    def problem_at_the_end(self):
+        """Ends the driver; gives what is wrong with how it ended, or None."""
+        status, rest = self.end() if self.process else (0, b"")
+        if status == 0 and not rest:
+            return None
+        return f"the driver ended with status {status}, {len(rest)} bytes after its answers"
 
     def list(self, case):
         try:

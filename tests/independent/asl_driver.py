@@ -10,6 +10,7 @@ def main():
     reader = Reader(sys.stdin.buffer)
     while (case := reader.case()) is not None:
         sys.stdout.buffer.write(encode_answer(answer_of(case)))
+        sys.stdout.buffer.flush()
 
 
 if __name__ == "__main__":

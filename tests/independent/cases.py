@@ -10,11 +10,12 @@ import asl
 import combined
 import large
 import small
-from case import Case
+from case import FOUND_NUMBERS, Case
 from damages import DAMAGES, RECORD_DAMAGES, damage, edges
 from fields import (EXTENT_FIELDS, FOOTER_FIELDS, HEADER_FIELDS, RECORD_FIELDS, Places, get, put,
                     seal)
 from faults import spoil
+from protocol import numbers_as_bytes, split_numbers
 from shapes import Lent, any_meaning, broken_tables, lay_out, lend
 
 SEGMENT_KINDS = ("check", "look up", "tidy")
@@ -46,6 +47,14 @@ def any_output(rng, needed):
     return rng.randbytes(max(length, 0))
 
 
+def any_found(rng):
+    """A list for look up's answer: mostly of the eight numbers it needs, sometimes one short, one
+    longer, or empty."""
+    length = rng.choices((FOUND_NUMBERS, FOUND_NUMBERS - 1, FOUND_NUMBERS + 1, 0),
+                         (80, 6, 10, 4))[0]
+    return [rng.randrange(2**64) for _ in range(length)]
+
+
 def neighbour(rng, digest):
     """The digest's neighbour in the order of bytes, or one that differs in a single bit."""
     changed = bytearray(digest)
@@ -58,8 +67,8 @@ def neighbour(rng, digest):
 
 
 def any_key(rng, subject):
-    """Mostly a key that stands there or its neighbour; sometimes one of a wrong length or of an
-    unknown hash id."""
+    """Mostly a key that stands there or its neighbour; sometimes one of a wrong length, or of a
+    hash id that is unknown or right modulo 2^32 only."""
     pair = 2 * rng.randrange(len(subject.table) // 2)
     stranger = subject.table[pair], rng.randbytes(subject.table[pair + 1])
     hash_id, digest = rng.choice(subject.keys) if subject.keys else stranger
@@ -72,8 +81,10 @@ def any_key(rng, subject):
         return stranger
     if choice < 0.85:
         return subject.table[pair], digest
-    if choice < 0.9:
+    if choice < 0.88:
         return (hash_id + rng.choice((1, 2**31, 2**32 - 1))) % 2**32, digest
+    if choice < 0.92:
+        return hash_id + 2**32 * rng.choice((1, 2**31, 2**32 - 1)), digest
     return hash_id, rng.choice((digest[:-1], digest + b"\0", b"", digest * 2, digest[:1]))
 
 
@@ -83,6 +94,7 @@ def ask(rng, kind, subject, segment, name, table=None):
                 segment=segment)
     if kind == "look up":
         case.hash_id, case.digest = any_key(rng, subject)
+        case.found = any_found(rng)
     elif kind == "tidy":
         case.out = any_output(rng, subject.tidy_length)
     return case
@@ -168,6 +180,17 @@ def every_table(rng, subjects):
             for kind in SEGMENT_KINDS:
                 yield ask(rng, kind, subject, subject.segment, name, table=table)
                 yield ask(rng, kind, subject, subject.segment[:100], name + ", cut", table=table)
+
+
+def every_table_size(rng, subject):
+    """The table's bytes cut at every byte, and with up to 8 more, to every service."""
+    whole = numbers_as_bytes(subject.table)
+    for size in range(len(whole) + 9):
+        name = f"table of {size} bytes"
+        cases = [ask(rng, kind, subject, subject.segment, name) for kind in SEGMENT_KINDS]
+        for case in [*cases, write_case(rng, small_lent(), name)]:
+            case.table, case.table_rest = split_numbers((whole + bytes(8))[:size])
+            yield case
 
 
 def every_room(rng, subjects):
@@ -277,7 +300,8 @@ def other_table(rng, table):
 
 
 def any_segment_case(rng, subject):
-    """A random question about the whole segment, or about a damaged one."""
+    """A random question about the whole segment, or about a damaged one; seldom with a table
+    whose bytes end inside a number."""
     kind = rng.choice(SEGMENT_KINDS)
     segment, name, table = subject.segment, "whole", subject.table
     if rng.random() < 0.75:
@@ -290,7 +314,10 @@ def any_segment_case(rng, subject):
     elif rng.random() < 0.05:
         table = other_table(rng, subject.table)
         name += "; other table"
-    return ask(rng, kind, subject, segment, name, table=table)
+    case = ask(rng, kind, subject, segment, name, table=table)
+    if rng.random() < 0.01:
+        case.table_rest = rng.randbytes(rng.randint(1, 7))
+    return case
 
 
 def any_unaligned_segment(rng, meaning):
@@ -328,6 +355,7 @@ def systematic_cases(rng):
     yield from every_byte(rng, subjects)
     yield from every_field(rng, subjects[1:])
     yield from every_table(rng, subjects)
+    yield from every_table_size(rng, subjects[-1])
     yield from every_room(rng, subjects)
     yield from every_number_lent(rng)
     yield from wide_lengths(rng)
@@ -340,8 +368,6 @@ def systematic_cases(rng):
 def all_cases(rng, count, long_run):
     """Systematic cases, large ones, `count` random ones and some listings."""
     yield from systematic_cases(rng)
-    yield from large.large_cases(rng)
-    if long_run:
-        yield from large.long_cases(rng)
+    yield from large.large_cases(rng, long_run)
     yield from random_cases(rng, count)
     yield from listing_cases(rng, max(count // 50, 20))

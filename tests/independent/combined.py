@@ -45,13 +45,18 @@ def duplicate_fault(record):
     return f"12 at {record}", change
 
 
+def less_room(case):
+    """One byte of output less, and one number less for look up's answer."""
+    case.out, case.found = case.out[1:], case.found[1:]
+
+
 def segment_faults():
     """All but 6, which is a checksum left wrong, and 1, which hides all others."""
     faults = [header_fault(number) for number in HEADER_FAULTS]
     faults += [record_fault(number, record) for number in RECORD_FAULTS
                for record in range(RECORDS)]
     faults += [duplicate_fault(record) for record in range(1, RECORDS)]
-    return faults + [("13", lambda case: setattr(case, "out", case.out[1:])),
+    return faults + [("13", less_room),
                      ("14", lambda case: setattr(case, "table", case.table[:-1])),
                      ("17", lambda case: setattr(case, "digest", case.digest[1:]))]
 
@@ -117,7 +122,7 @@ def write_faults():
     faults += [extent_fault(entry) for entry in range(RECORDS)]
     faults += [repeated_key_fault(entry) for entry in range(1, RECORDS)]
     return faults + [("5", lambda case: setattr(case, "bloom", b"bloom")),
-                     ("13", lambda case: setattr(case, "out", case.out[1:])),
+                     ("13", less_room),
                      ("14", lambda case: setattr(case, "table", case.table[:-1]))]
 
 

@@ -27,7 +27,7 @@ from shapes import any_meaning
 # Which answers each service can give; all of them have to be met in a run.
 POSSIBLE = {
     "check": [*range(13), 14],
-    "look up": [*range(13), 14, 17],
+    "look up": [*range(15), 17],
     "tidy": [*range(15), 16],
     "write": [0, 5, 7, 8, 9, 10, 12, 13, 14, 15, 16],
 }
@@ -46,7 +46,8 @@ def shown_numbers(numbers):
 
 
 def shown_inputs(case):
-    yield "table", shown_numbers(case.table)
+    rest = f" and bytes {case.table_rest.hex()}" if case.table_rest else ""
+    yield "table", shown_numbers(case.table) + rest
     if case.kind == "write":
         yield "heading", shown_numbers(case.heading)
         yield "bloom", shown_bytes(case.bloom)
@@ -57,6 +58,7 @@ def shown_inputs(case):
         yield "segment", shown_bytes(case.segment)
     if case.kind == "look up":
         yield "key", f"{case.hash_id} {case.digest.hex()}"
+        yield "found before", shown_numbers(case.found)
     if case.kind in ("tidy", "write"):
         yield "output before", shown_bytes(case.out)
 
@@ -66,9 +68,9 @@ def shown_answer(answer, case):
         return answer
     if case.kind == "list":
         return answer.out[:SHORT].decode(errors="replace")
-    verdict = f"refused {answer.number} at {answer.place}" if answer.number else "accepted"
+    verdict = f"refused {answer.number}" if answer.number else "accepted"
     out = "unchanged" if answer.out == case.out else shown_bytes(answer.out)
-    return f"{verdict}, values {list(answer.values)}, output {out}"
+    return f"{verdict}, place {answer.place}, values {list(answer.values)}, output {out}"
 
 
 def show(case, expected, answer):
@@ -106,6 +108,10 @@ class Tally:
             self.expected[case.kind, right.number] += 1
             self.note(answer == right, lambda: show(case, right, answer))
 
+    def end(self, driver):
+        problem = driver.problem_at_the_end()
+        self.note(problem is None, lambda: print(f"AT THE END: {problem}"))
+
     def require_all_numbers(self):
         for kind, numbers in POSSIBLE.items():
             for number in numbers:
@@ -129,7 +135,7 @@ def compare_all(ask, seed, count, long_run, with_listing, tally):
     for batch in batches(cases):
         tally.compare(batch, [answer_of(case) for case in batch], ask(batch))
     tally.require_all_numbers()
-    meanings = [any_meaning(rng) for _ in range(max(count // 100, 20))]
+    meanings = [any_meaning(rng) for _ in range(max(count // 40, 20))]
     tried = property_problems(rng, ask, meanings)
     for meaning, problem in tried:
         tally.note(problem is None, lambda: print(f"PROPERTY BROKEN: {problem}; {meaning}"))
@@ -156,16 +162,14 @@ def main(argv):
     args = parse(argv)
     seed = random.SystemRandom().randrange(2**32) if args.seed is None else args.seed
     print(f"seed {seed}", flush=True)
-    ask, with_listing = ask_here, True
-    if args.wrong:
-        ask = wrong.asker(args.wrong)
-    elif args.command:
-        ask = Driver(args.command, shlex.split(args.listing) if args.listing else None)
-        with_listing = args.listing is not None
+    driver = Driver(args.command, shlex.split(args.listing) if args.listing else None)
+    ask = driver if args.command else wrong.asker(args.wrong) if args.wrong else ask_here
+    with_listing = not args.command or args.listing is not None
     if not with_listing:
         print("no listing program was given: the listing is not compared")
     tally, began = Tally(), time.monotonic()
     tried = compare_all(ask, seed, args.cases, args.long, with_listing, tally)
+    tally.end(driver)
     tally.print_counts()
     seconds = time.monotonic() - began
     print(f"properties: {tried} tried; {seconds:.1f} s,"

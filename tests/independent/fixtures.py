@@ -6,8 +6,9 @@
 
 NN-name.asl is a segment under the table 1 -> 32, 7 -> 4; it is asked of check, of look up (hash
 7, digest 0a0b0c0d) and of tidy (65,536 bytes of room), which all answer NN. NN-name.args is JSON
-and says its service and all its arguments. The numbers and places below are written by hand from
-the paper.
+and says its service and all its arguments; `table_rest` are bytes after the table's last whole
+number, `found` is how many numbers look up is lent for its answer. The numbers and places below
+are written by hand from the paper.
 """
 
 import json
@@ -62,6 +63,7 @@ def digests_not_by_8():
 # at 212. The digest section is 208 to 216, the extent section 216 to 232.
 L = small.case_l()
 WRAPPED_SIZE = 2**64 - 112
+BAD_CHECKSUM = L[:-FOOTER_SIZE] + bytes([L[-FOOTER_SIZE] ^ 1]) + L[1 - FOOTER_SIZE:]
 
 # (name, segment, place), in the order of the refusal numbers with which the names begin.
 SEGMENTS = [
@@ -107,7 +109,7 @@ SEGMENTS = [
     ("05-bloom-not-by-8", in_order([], bloom=bytes(4)), 0),
     ("05-digests-not-by-8", digests_not_by_8(), 0),
     # 6: a checksum that differs in one bit, and a changed byte under the old checksum.
-    ("06-checksum", L[:-FOOTER_SIZE] + bytes([L[-FOOTER_SIZE] ^ 1]) + L[1 - FOOTER_SIZE:], 0),
+    ("06-checksum", BAD_CHECKSUM, 0),
     ("06-padding-changed", small.one()[:167] + b"\1" + small.one()[168:], 0),
     # 7: each of a record's fixed fields, in record 1.
     ("07-reserved-6", with_record(L, 1, reserved_6=1), 1),
@@ -158,8 +160,8 @@ def segment_arguments(service, segment=L, table=((1, 32), (7, 4)), **others):
     return {"service": service, "table": table, "segment": segment.hex(), **others}
 
 
-def look_up_arguments(hash_id, digest, **others):
-    return segment_arguments("look up", hash_id=hash_id, digest=digest.hex(), **others)
+def look_up_arguments(hash_id, digest, found=8, **others):
+    return segment_arguments("look up", hash_id=hash_id, digest=digest.hex(), found=found, **others)
 
 
 LIVE_ENTRY = [7, 0, 4, 1, 0, 0, 0, 0, 1]
@@ -195,6 +197,8 @@ ARGUMENTS = [
     ("00-look-up-absent", look_up_arguments(7, KEY_7C), 0),
     # 5: bloom bytes that are no multiple of 8.
     ("05-write-bloom", write_arguments(bloom="00" * 12), 0),
+    # 6: a list too short for look up's answer comes after the segment.
+    ("06-look-up-before-found", look_up_arguments(7, KEY_7D, found=0, segment=BAD_CHECKSUM), 0),
     # 7: marks and visibility above 1, too wide a source, a source without the mark.
     ("07-write-visibility", second_entry(visibility=2), 1),
     ("07-write-imported", second_entry(imported=256), 1),
@@ -215,12 +219,15 @@ ARGUMENTS = [
     ("10-write-sum", one_entry((9, 0, 2**31), (9, 0, 2**31)), 0),
     # 12: the first entry's key again.
     ("12-write-duplicate", second_entry(digest_start=0), 1),
-    # 13: one byte short.
+    # 13: one byte short, and one number short of look up's eight.
     ("13-tidy-room", segment_arguments("tidy", room=255), 0),
     ("13-write-room", write_arguments(room=255), 0),
+    ("13-look-up-found", look_up_arguments(7, KEY_7D, found=7), 0),
     # 14: each rule of the table; in look up it comes before the unknown key.
     ("14-check-empty", segment_arguments("check", table=[]), 0),
     ("14-check-unfinished", segment_arguments("check", table=[[1, 32], [7, 4], [8]]), 0),
+    ("14-check-inside-a-number", segment_arguments("check", table=[[1, 32], [7]],
+                                                   table_rest="04000000000000"), 0),
     ("14-check-17-pairs", segment_arguments("check", table=[[i, 4] for i in range(17)]), 0),
     ("14-check-length-0", segment_arguments("check", table=[[1, 0], [7, 4]]), 0),
     ("14-check-length-1025", segment_arguments("check", table=[[1, 1_025], [7, 4]]), 0),
@@ -239,8 +246,10 @@ ARGUMENTS = [
     # 16: one entry too many, though each of them is bad.
     ("16-write-65537-entries", write_arguments(
         entries=[[7, 9, 9, 9, 9, 9, 9, 9, 9]], entries_times=65_537), 0),
-    # 17: a hash id that the table lacks, a length that is not its own; before the segment.
+    # 17: a hash id that the table lacks or that is right modulo 2^32 only, a length that is not its
+    # own; before the segment.
     ("17-look-up-unknown-hash-id", look_up_arguments(8, KEY_7D), 0),
+    ("17-look-up-hash-id-too-wide", look_up_arguments(7 + 2**32, KEY_7D), 0),
     ("17-look-up-length", look_up_arguments(7, KEY_7D[:3]), 0),
     ("17-look-up-before-the-segment", look_up_arguments(7, b"", segment=b""), 0),
 ]
@@ -254,6 +263,7 @@ def flat(lists):
 
 def case_of_arguments(name, arguments):
     case = Case(arguments["service"], name, table=flat(arguments["table"]),
+                table_rest=bytes.fromhex(arguments.get("table_rest", "")),
                 out=bytes(arguments.get("room", 0)))
     if case.kind == "write":
         case.heading = tuple(arguments["heading"])
@@ -266,6 +276,7 @@ def case_of_arguments(name, arguments):
     if case.kind == "look up":
         case.hash_id = arguments["hash_id"]
         case.digest = bytes.fromhex(arguments["digest"])
+        case.found = [0] * arguments["found"]
     return case
 
 

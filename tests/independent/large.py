@@ -12,41 +12,45 @@ from shapes import pack
 
 LIMIT = 1_073_741_824
 MOST = 65_536
+# How many records are shuffled. The library compares every two keys that do not stand in order: for
+# MOST of them each call takes more than a minute under the emulator.
+SHUFFLED, SHUFFLED_IN_LONG_RUN = 4_096, 16_384
 
 
 def distinct_digests(count):
     return b"".join(number.to_bytes(4, "big") for number in range(count))
 
 
-def gone_entries(count):
-    """Entries that are all good: gone records with different digests."""
-    return [number for i in range(count) for number in (7, 4 * i, 4, 0, 0, 0, 1, 0, 0)]
+def gone_entries(order):
+    """Entries that are all good: gone records with different digests, in the order given."""
+    return [number for i in order for number in (7, 4 * i, 4, 0, 0, 0, 1, 0, 0)]
 
 
-def write_gone(name, count, change=None):
-    entries = gone_entries(count)
+def write_gone(name, order, change=None, out=bytes(100)):
+    entries = gone_entries(order)
     if change:
         entry, field, value = change
         entries[9 * entry + field] = value
     return Case("write", name, table=small.TABLE, heading=small.HEADING, entries=entries,
-                digests=distinct_digests(count), out=bytes(100))
+                digests=distinct_digests(len(order)), out=out)
 
 
-def gone_segment(count):
+def gone_segment(order):
     """A segment of gone records with different digests, right in all but perhaps their count."""
-    digests = distinct_digests(count)
+    digests = distinct_digests(len(order))
     digests += bytes(-len(digests) % 8)
     record = {"hash id": 7, "digest length": 4, "extents offset": None, "visibility": 0,
               "flags": 1}
-    return pack(small.HEADING, [record | {"digest offset": 4 * i} for i in range(count)], digests)
+    return pack(small.HEADING, [record | {"digest offset": 4 * i} for i in order], digests)
 
 
 def count_cases():
-    yield write_gone("65,537 entries", MOST + 1)
-    yield write_gone("65,537 entries, the first bad", MOST + 1, (0, 3, 2))
-    yield write_gone("65,536 entries, the last bad", MOST, (MOST - 1, 3, 2))
-    yield Case("check", "65,537 records", table=small.TABLE, segment=gone_segment(MOST + 1))
-    segment = bytearray(gone_segment(MOST))
+    most, too_many = range(MOST), range(MOST + 1)
+    yield write_gone("65,537 entries", too_many)
+    yield write_gone("65,537 entries, the first bad", too_many, (0, 3, 2))
+    yield write_gone("65,536 entries, the last bad", most, (MOST - 1, 3, 2))
+    yield Case("check", "65,537 records", table=small.TABLE, segment=gone_segment(too_many))
+    segment = bytearray(gone_segment(most))
     put(segment, Places(segment).records[-1], RECORD_FIELDS["flags"], 2)
     seal(segment)
     yield Case("check", "65,536 records, the last bad", table=small.TABLE, segment=bytes(segment))
@@ -93,18 +97,30 @@ def size_cases(rng):
                    out=rng.randbytes(50))
 
 
-def large_cases(rng):
+def many_cases(rng, name, order):
+    """Many records that are all good, in some order, with room to spare: accepted, found, tidied
+    and written."""
+    segment = gone_segment(order)
+    out = rng.randbytes(len(segment) + 8)
+    yield Case("check", name, table=small.TABLE, segment=segment)
+    yield Case("look up", name, table=small.TABLE, segment=segment, hash_id=7,
+               digest=order[-1].to_bytes(4, "big"))
+    yield Case("tidy", name, table=small.TABLE, segment=segment, out=out)
+    yield write_gone(name, order, out=out)
+
+
+def key_again_cases(order):
+    """Many records of which the last has the key of the first."""
+    name, again = f"{len(order)} records, a key again", [*order[:-1], order[0]]
+    yield Case("check", name, table=small.TABLE, segment=gone_segment(again))
+    yield write_gone(name, again)
+
+
+def large_cases(rng, long_run):
     yield from count_cases()
     yield from size_cases(rng)
-
-
-def long_cases(rng):
-    """The greatest numbers of records that are accepted: only in the long run, since finding
-    duplicates among them may take a while."""
-    segment = gone_segment(MOST)
-    yield Case("check", "65,536 records", table=small.TABLE, segment=segment)
-    yield Case("tidy", "65,536 records", table=small.TABLE, segment=segment,
-               out=rng.randbytes(len(segment) + 8))
-    case = write_gone("65,536 entries", MOST)
-    case.out = rng.randbytes(len(segment) + 8)
-    yield case
+    yield from many_cases(rng, "65,536 records in order", range(MOST))
+    count = SHUFFLED_IN_LONG_RUN if long_run else SHUFFLED
+    order = rng.sample(range(count), count)
+    yield from many_cases(rng, f"{count} records shuffled", order)
+    yield from key_again_cases(order)

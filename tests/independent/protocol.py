@@ -16,18 +16,24 @@ def numbers_from_bytes(data):
     return list(struct.unpack(f"<{len(data) // 8}Q", data))
 
 
+def split_numbers(data):
+    """The whole numbers at the beginning of the bytes, and the bytes after them."""
+    whole = len(data) - len(data) % 8
+    return numbers_from_bytes(data[:whole]), data[whole:]
+
+
 def field(data):
     return struct.pack("<Q", len(data)) + data
 
 
 def encode_case(case):
     kind = bytes([KIND_NUMBERS[case.kind]])
-    table = field(numbers_as_bytes(case.table))
+    table = field(numbers_as_bytes(case.table) + case.table_rest)
     if case.kind == "check":
         return kind + table + field(case.segment)
     if case.kind == "look up":
         return (kind + table + field(case.segment) + numbers_as_bytes([case.hash_id])
-                + field(case.digest))
+                + field(case.digest) + field(numbers_as_bytes(case.found)))
     if case.kind == "tidy":
         return kind + table + field(case.segment) + field(case.out)
     return (kind + table + numbers_as_bytes(case.heading) + field(case.bloom)
@@ -67,7 +73,8 @@ class Reader:
         kind = self.stream.read(1)
         if not kind:
             return None
-        case = Case(KIND_NAMES[kind[0]], "", table=numbers_from_bytes(self.field()))
+        case = Case(KIND_NAMES[kind[0]], "")
+        case.table, case.table_rest = split_numbers(self.field())
         if case.kind == "write":
             case.heading = tuple(self.numbers(6))
             case.bloom = self.field()
@@ -80,6 +87,7 @@ class Reader:
         if case.kind == "look up":
             case.hash_id = self.numbers(1)[0]
             case.digest = self.field()
+            case.found = numbers_from_bytes(self.field())
         elif case.kind == "tidy":
             case.out = self.field()
         return case

@@ -247,7 +247,7 @@ def lend(rng, meaning):
 
 def broken_tables(rng, table):
     """A name and a table for every way to break the table's rule, most of them one step from
-    the good table that is given."""
+    the table that is given. That one may be broken already, so sums are kept below 2^64."""
     spare = next(i for i in range(100) if i not in table[0::2])
     filled = table + [n for i in range(1_000, 1_017) for n in (i, 4)]
     return [
@@ -261,9 +261,10 @@ def broken_tables(rng, table):
         ("table with a hash id twice, other length", table + [table[0], table[1] % 1_024 + 1]),
         ("table with length 0", table[:1] + [0] + table[2:]),
         ("table with length 1,025", table[:1] + [1_025] + table[2:]),
-        ("table with a length that fits modulo 2^16", table[:1] + [table[1] + 2**16] + table[2:]),
+        ("table with a length that fits modulo 2^16",
+         table[:1] + [(table[1] + 2**16) % 2**64] + table[2:]),
         ("table with length 2^64 - 1", table[:-1] + [2**64 - 1]),
         ("table with hash id 2^32", [2**32] + table[1:]),
         ("table with a hash id that fits modulo 2^32",
-         [table[0] + 2**32 * rng.randint(1, 2**32 - 1)] + table[1:]),
+         [(table[0] + 2**32 * rng.randint(1, 2**32 - 1)) % 2**64] + table[1:]),
     ]

@@ -130,7 +130,7 @@ class PaperCases(unittest.TestCase):
 
     def test_65536_and_65537_entries(self):
         for count, number in ((65_536, 0), (65_537, 16)):
-            answer, segment = write(large.gone_entries(count), large.distinct_digests(count), [],
+            answer, segment = write(large.gone_entries(range(count)), large.distinct_digests(count), [],
                                     room=4_000_000)
             self.assertEqual(answer, (number, 0))
             self.assertEqual(len(segment), 0 if number else 136 + 52 * 65_536)

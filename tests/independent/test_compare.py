@@ -43,9 +43,15 @@ def tally_of(ask, cases=CASES, expected=EXPECTED):
     return tally
 
 
-def driver_tally(command):
-    cases = DRIVER_CASES
-    return tally_of(Driver(command), cases, [answer_of(case) for case in cases])
+def driver_tally(command, cases=DRIVER_CASES):
+    driver = Driver(command)
+    tally = tally_of(driver, cases, [answer_of(case) for case in cases])
+    tally.end(driver)
+    return tally
+
+
+def python_command(script):
+    return [sys.executable, "-c", f"import sys; sys.path.insert(0, {str(HERE)!r}); {script}"]
 
 
 def small_property_problems(ask):
@@ -77,7 +83,7 @@ class RightProgram(unittest.TestCase):
 
     def test_through_a_driver(self):
         tally = driver_tally(ASL_DRIVER)
-        self.assertEqual((tally.passed, tally.failed), (len(DRIVER_CASES), 0))
+        self.assertEqual((tally.passed, tally.failed), (len(DRIVER_CASES) + 1, 0))
 
     def test_properties(self):
         tried = small_property_problems(ask_here)
@@ -108,26 +114,24 @@ class BrokenProperties(unittest.TestCase):
 class BrokenDrivers(unittest.TestCase):
     def test_one_that_ends_at_once(self):
         tally = driver_tally([sys.executable, "-c", "raise SystemExit(3)"])
-        self.assertEqual(tally.failed, len(DRIVER_CASES))
+        self.assertEqual((tally.passed, tally.failed), (1, len(DRIVER_CASES)))
 
     def test_one_that_says_too_much(self):
         script = "import asl_driver, sys; asl_driver.main(); sys.stdout.buffer.write(b'!')"
-        command = [sys.executable, "-c", f"import sys; sys.path.insert(0, {str(HERE)!r}); {script}"]
-        self.assertGreater(driver_tally(command).failed, 0)
+        tally = driver_tally(python_command(script))
+        self.assertEqual((tally.passed, tally.failed), (len(DRIVER_CASES), 1))
 
     def test_one_that_ends_amid_its_answers(self):
         """The case at which it ended fails, and those after it are asked again."""
-        script = ("import sys; from protocol import Reader, encode_answer;"
-                  "from case import answer_of; reader = Reader(sys.stdin.buffer);"
-                  "cases = iter(reader.case, None);"
-                  "[sys.exit(1) if case.kind == 'write' and case.bloom == b'odd' else "
-                  "sys.stdout.buffer.write(encode_answer(answer_of(case))) for case in cases]")
-        command = [sys.executable, "-c", f"import sys; sys.path.insert(0, {str(HERE)!r}); {script}"]
+        script = ("import asl_driver, sys; right = asl_driver.answer_of;"
+                  "asl_driver.answer_of = lambda case: "
+                  "sys.exit(1) if case.bloom == b'odd' else right(case); asl_driver.main()")
+        command = python_command(script)
         deadly = fixtures.case_of_arguments("deadly", fixtures.write_arguments())
         deadly.bloom = b"odd"
         cases = DRIVER_CASES[:10] + [deadly] + DRIVER_CASES[10:20]
-        tally = tally_of(Driver(command), cases, [answer_of(case) for case in cases])
-        self.assertEqual((tally.passed, tally.failed), (20, 1))
+        tally = driver_tally(command, cases)
+        self.assertEqual((tally.passed, tally.failed), (21, 1))
 
 
 class Counting(unittest.TestCase):

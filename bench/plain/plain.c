@@ -1,0 +1,611 @@
+// The four services of asl.h in plain C, written from document 01 alone: a yardstick for the speed of the library, and
+// a third opinion beside it and tests/independent/asl.py. It allocates where the library does not, and aborts where
+// there is no memory, since document 01 has no refusal for that.
+//
+// NAME gives the functions their names: those of asl.h by default, so that this links in the library's place. Compiled
+// with -D'NAME(x)=plain_##x' it links beside it. NAME(crc64) is its checksum.
+#include "asl.h"
+
+#include <stdlib.h>
+#include <string.h>
+
+#ifndef NAME
+#define NAME(x) asl_##x
+#endif
+
+// The sizes of the four structures, and where their fields stand in them.
+enum { HEADER = 112, RECORD = 48, EXTENT = ASL_EXTENT_SIZE, FOOTER = 24 };
+enum {
+    H_MAGIC = 0,
+    H_VERSION = 8,
+    H_SHARD = 10,
+    H_HEADER_SIZE = 12,
+    H_SNAPSHOT_MIN = 16,
+    H_SNAPSHOT_MAX = 24,
+    H_RECORD_COUNT = 32,
+    H_RECORDS_OFFSET = 40,
+    H_BLOOM_OFFSET = 48,
+    H_BLOOM_SIZE = 56,
+    H_DIGESTS_OFFSET = 64,
+    H_DIGESTS_SIZE = 72,
+    H_EXTENTS_OFFSET = 80,
+    H_EXTENT_COUNT = 88,
+    H_DOMAIN = 96,
+    H_VISIBILITY = 100,
+    H_FEDERATION = 101,
+    H_RESERVED = 102,
+    H_FLAGS = 104
+};
+enum {
+    R_HASH_ID = 0,
+    R_DIGEST_LENGTH = 4,
+    R_RESERVED = 6,
+    R_DIGEST_OFFSET = 8,
+    R_EXTENTS_OFFSET = 16,
+    R_EXTENT_COUNT = 24,
+    R_TOTAL = 28,
+    R_DOMAIN = 32,
+    R_VISIBILITY = 36,
+    R_IMPORTED = 37,
+    R_RESERVED_LAST = 38,
+    R_SOURCE = 40,
+    R_FLAGS = 44
+};
+enum { X_BLOCK = 0, X_OFFSET = 8, X_LENGTH = 12 };
+enum { F_CRC64 = 0, F_SEAL_SNAPSHOT = 8, F_SEAL_TIME = 16 };
+enum { GONE = 1 }; // the one flag of a record
+
+static const uint8_t MAGIC[8] = {'A', 'S', 'L', 'I', 'D', 'X', '0', '3'};
+static const uint64_t U32_MOST = 0xFFFFFFFF;
+static const uint64_t EXTENT_END_MOST = 0x100000000;
+
+struct verdict {
+    uint64_t number, place;
+};
+
+static struct verdict refusal(uint64_t number, uint64_t place) { return (struct verdict){number, place}; }
+static struct verdict accepted(void) { return refusal(ASL_OK, 0); }
+
+static void *allocate(size_t count, size_t size) {
+    void *block = calloc(count ? count : 1, size);
+    if (!block) abort();
+    return block;
+}
+
+// Numbers in bytes --------------------------------------------------------------------------------------------------
+
+static uint16_t get16(const uint8_t *at) { return (uint16_t)(at[0] | at[1] << 8); }
+static uint32_t get32(const uint8_t *at) { return get16(at) | (uint32_t)get16(at + 2) << 16; }
+static uint64_t get64(const uint8_t *at) { return get32(at) | (uint64_t)get32(at + 4) << 32; }
+
+static void put16(uint8_t *at, uint16_t number) {
+    at[0] = (uint8_t)number;
+    at[1] = (uint8_t)(number >> 8);
+}
+
+static void put32(uint8_t *at, uint32_t number) {
+    put16(at, (uint16_t)number);
+    put16(at + 2, (uint16_t)(number >> 16));
+}
+
+static void put64(uint8_t *at, uint64_t number) {
+    put32(at, (uint32_t)number);
+    put32(at + 4, (uint32_t)(number >> 32));
+}
+
+// The checksum: eight bytes at a time, by eight tables --------------------------------------------------------------
+
+static uint64_t after[8][256]; // after[k][b] is the register b after k + 1 bytes of zeros
+
+__attribute__((constructor)) static void fill_tables(void) {
+    for (int b = 0; b < 256; b++) {
+        uint64_t c = (uint64_t)b;
+        for (int bit = 0; bit < 8; bit++) c = c & 1 ? c >> 1 ^ 0xC96C5795D7870F42 : c >> 1;
+        after[0][b] = c;
+    }
+    for (int k = 1; k < 8; k++)
+        for (int b = 0; b < 256; b++) after[k][b] = after[k - 1][b] >> 8 ^ after[0][after[k - 1][b] & 255];
+}
+
+uint64_t NAME(crc64)(const uint8_t *bytes, size_t size);
+
+uint64_t NAME(crc64)(const uint8_t *bytes, size_t size) {
+    uint64_t c = UINT64_MAX;
+    for (; size >= 8; size -= 8, bytes += 8) {
+        c ^= get64(bytes);
+        c = after[7][c & 255] ^ after[6][c >> 8 & 255] ^ after[5][c >> 16 & 255] ^ after[4][c >> 24 & 255] ^
+            after[3][c >> 32 & 255] ^ after[2][c >> 40 & 255] ^ after[1][c >> 48 & 255] ^ after[0][c >> 56];
+    }
+    for (; size > 0; size--, bytes++) c = c >> 8 ^ after[0][(c ^ *bytes) & 255];
+    return ~c;
+}
+
+// The store's table -------------------------------------------------------------------------------------------------
+
+struct table {
+    size_t pairs;
+    uint32_t hash_id[ASL_PAIRS_LIMIT];
+    uint16_t length[ASL_PAIRS_LIMIT];
+};
+
+// The pair of a hash id, or t->pairs if there is none.
+static size_t pair_of(const struct table *t, uint64_t hash_id) {
+    size_t pair = 0;
+    while (pair < t->pairs && t->hash_id[pair] != hash_id) pair++;
+    return pair;
+}
+
+static int allows(const struct table *t, uint64_t hash_id, uint64_t length) {
+    size_t pair = pair_of(t, hash_id);
+    return pair < t->pairs && t->length[pair] == length;
+}
+
+// Whether the bytes are a table, which is then in *t.
+static int read_table(struct table *t, const uint8_t *bytes, size_t size) {
+    t->pairs = 0;
+    if (size == 0 || size % ASL_PAIR_SIZE != 0 || size > ASL_PAIRS_LIMIT * ASL_PAIR_SIZE) return 0;
+    for (size_t at = 0; at < size; at += ASL_PAIR_SIZE) {
+        uint64_t hash_id = get64(bytes + at), length = get64(bytes + at + 8);
+        if (hash_id > U32_MOST || length < 1 || length > ASL_DIGEST_LIMIT) return 0;
+        if (pair_of(t, hash_id) < t->pairs) return 0;
+        t->hash_id[t->pairs] = (uint32_t)hash_id;
+        t->length[t->pairs++] = (uint16_t)length;
+    }
+    return 1;
+}
+
+// Items: records of a segment and entries of write's list -----------------------------------------------------------
+
+// An item whose rules were tested. Its extents lie in a segment, or in write's list; the other pointer is NULL.
+struct item {
+    const uint8_t *digest;
+    const uint8_t *in_segment;
+    const uint64_t *in_list;
+    uint32_t hash_id, source, extent_count, total;
+    uint16_t digest_length;
+    uint8_t visibility, imported, gone;
+};
+
+// By hash id, then by digest bytes. One hash id has digests of one length.
+static int compare(const struct item *a, const struct item *b) {
+    if (a->hash_id != b->hash_id) return a->hash_id < b->hash_id ? -1 : 1;
+    return memcmp(a->digest, b->digest, a->digest_length);
+}
+
+static int compare_for_qsort(const void *a, const void *b) { return compare(a, b); }
+
+static int ascend(const struct item *items, size_t count) {
+    for (size_t i = 1; i < count; i++)
+        if (compare(&items[i - 1], &items[i]) >= 0) return 0;
+    return 1;
+}
+
+static uint64_t mix(uint64_t h) {
+    h *= 0x9E3779B97F4A7C15;
+    return h ^ h >> 32;
+}
+
+static uint64_t hash_of(const struct item *item) {
+    uint64_t h = mix(item->hash_id);
+    size_t at = 0;
+    for (; at + 8 <= item->digest_length; at += 8) h = mix(h ^ get64(item->digest + at));
+    for (; at < item->digest_length; at++) h = mix(h ^ item->digest[at]);
+    return h;
+}
+
+// The lowest item whose key stands earlier, or count. A set by open addressing holds the items before, as number + 1.
+static size_t first_repeat(const struct item *items, size_t count) {
+    size_t slots = 1, number;
+    while (slots < 2 * count) slots *= 2;
+    uint32_t *seen = allocate(slots, sizeof *seen);
+    for (number = 0; number < count; number++) {
+        size_t slot = hash_of(&items[number]) & (slots - 1);
+        while (seen[slot] && compare(&items[seen[slot] - 1], &items[number]) != 0) slot = (slot + 1) & (slots - 1);
+        if (seen[slot]) break;
+        seen[slot] = (uint32_t)number + 1;
+    }
+    free(seen);
+    return number;
+}
+
+// Reading a segment -------------------------------------------------------------------------------------------------
+
+struct segment {
+    const uint8_t *bytes;
+    uint64_t size, record_count, records, bloom, bloom_size, digests, digests_size, extents, extent_count;
+    uint32_t domain;
+    uint8_t visibility;
+};
+
+// No number of a good header is greater than the file. Once that is known, no sum below can wrap.
+static int laid_out(const struct segment *s) {
+    if (s->bloom_size > s->size || s->digests_size > s->size || s->extent_count > s->size) return 0;
+    return s->record_count <= ASL_RECORDS_LIMIT && s->bloom_size % 8 == 0 && s->digests_size % 8 == 0 &&
+           s->bloom == (s->bloom_size ? HEADER : 0) && s->records == HEADER + s->bloom_size &&
+           s->digests == s->records + RECORD * s->record_count && s->extents == s->digests + s->digests_size &&
+           s->size == s->extents + EXTENT * s->extent_count + FOOTER;
+}
+
+// Refusals 1 to 6; *s is the segment if there is none.
+static uint64_t read_segment(struct segment *s, const uint8_t *bytes, size_t size) {
+    if (size < ASL_LEAST || size > ASL_LIMIT) return ASL_SIZE;
+    if (memcmp(bytes + H_MAGIC, MAGIC, sizeof MAGIC) != 0) return ASL_MAGIC;
+    if (get16(bytes + H_VERSION) != ASL_FORMAT_VERSION) return ASL_VERSION;
+    if (get32(bytes + H_HEADER_SIZE) != HEADER || bytes[H_VISIBILITY] > 1 || bytes[H_FEDERATION] != 0 ||
+        get16(bytes + H_RESERVED) != 0 || get64(bytes + H_FLAGS) != 0)
+        return ASL_HEADER;
+    *s = (struct segment){
+        .bytes = bytes,
+        .size = size,
+        .record_count = get64(bytes + H_RECORD_COUNT),
+        .records = get64(bytes + H_RECORDS_OFFSET),
+        .bloom = get64(bytes + H_BLOOM_OFFSET),
+        .bloom_size = get64(bytes + H_BLOOM_SIZE),
+        .digests = get64(bytes + H_DIGESTS_OFFSET),
+        .digests_size = get64(bytes + H_DIGESTS_SIZE),
+        .extents = get64(bytes + H_EXTENTS_OFFSET),
+        .extent_count = get64(bytes + H_EXTENT_COUNT),
+        .domain = get32(bytes + H_DOMAIN),
+        .visibility = bytes[H_VISIBILITY],
+    };
+    if (!laid_out(s)) return ASL_LAYOUT;
+    if (get64(bytes + size - FOOTER + F_CRC64) != NAME(crc64)(bytes, size - FOOTER)) return ASL_CHECKSUM;
+    return ASL_OK;
+}
+
+static const uint8_t *record_at(const struct segment *s, uint64_t number) {
+    return s->bytes + s->records + RECORD * number;
+}
+
+static int lies_in(uint64_t start, uint64_t size, uint64_t section, uint64_t section_size) {
+    return start >= section && size <= section_size && start - section <= section_size - size;
+}
+
+// Whether these extents of a segment keep their rule and add up to total.
+static int adds_up(const uint8_t *extents, uint64_t count, uint64_t total) {
+    uint64_t sum = 0;
+    for (const uint8_t *end = extents + EXTENT * count; extents < end; extents += EXTENT) {
+        uint64_t offset = get32(extents + X_OFFSET), length = get32(extents + X_LENGTH);
+        if (offset + length > EXTENT_END_MOST) return 0;
+        sum += length;
+    }
+    return sum == total;
+}
+
+// Refusals 7 to 10 of the record at r.
+static uint64_t record_refusal(const struct segment *s, const struct table *t, const uint8_t *r) {
+    uint32_t flags = get32(r + R_FLAGS), source = get32(r + R_SOURCE), total = get32(r + R_TOTAL);
+    uint64_t digest_length = get16(r + R_DIGEST_LENGTH), extents = get64(r + R_EXTENTS_OFFSET),
+             count = get32(r + R_EXTENT_COUNT);
+    if (get16(r + R_RESERVED) != 0 || get16(r + R_RESERVED_LAST) != 0 || flags > GONE || r[R_VISIBILITY] > 1 ||
+        r[R_IMPORTED] > 1 || (r[R_IMPORTED] == 0 && source != 0) || get32(r + R_DOMAIN) != s->domain)
+        return ASL_RECORD;
+    if (!allows(t, get32(r + R_HASH_ID), digest_length) ||
+        !lies_in(get64(r + R_DIGEST_OFFSET), digest_length, s->digests, s->digests_size))
+        return ASL_DIGEST;
+    if (flags == GONE) {
+        if (extents != 0 || count != 0) return ASL_EXTENTS;
+        return total == 0 ? ASL_OK : ASL_TOTAL;
+    }
+    if (count == 0 || !lies_in(extents, EXTENT * count, s->extents, EXTENT * s->extent_count) ||
+        (extents - s->extents) % EXTENT != 0)
+        return ASL_EXTENTS;
+    return adds_up(s->bytes + extents, count, total) ? ASL_OK : ASL_TOTAL;
+}
+
+// The record at r, whose rules were tested.
+static struct item record_item(const struct segment *s, const uint8_t *r) {
+    return (struct item){
+        .digest = s->bytes + get64(r + R_DIGEST_OFFSET),
+        .in_segment = s->bytes + get64(r + R_EXTENTS_OFFSET),
+        .hash_id = get32(r + R_HASH_ID),
+        .source = get32(r + R_SOURCE),
+        .extent_count = get32(r + R_EXTENT_COUNT),
+        .total = get32(r + R_TOTAL),
+        .digest_length = get16(r + R_DIGEST_LENGTH),
+        .visibility = r[R_VISIBILITY],
+        .imported = r[R_IMPORTED],
+        .gone = get32(r + R_FLAGS) == GONE,
+    };
+}
+
+static struct item *record_items(const struct segment *s) {
+    struct item *items = allocate(s->record_count, sizeof *items);
+    for (uint64_t i = 0; i < s->record_count; i++) items[i] = record_item(s, record_at(s, i));
+    return items;
+}
+
+// Refusals 7 to 12. Only where keys do not ascend can there be a duplicate.
+static struct verdict check_records(const struct segment *s, const struct table *t) {
+    struct item before = {0};
+    int ascending = 1;
+    uint8_t visibility = 0;
+    for (uint64_t number = 0; number < s->record_count; number++) {
+        const uint8_t *r = record_at(s, number);
+        uint64_t refused = record_refusal(s, t, r);
+        if (refused) return refusal(refused, number);
+        struct item item = record_item(s, r);
+        if (number > 0 && compare(&before, &item) >= 0) ascending = 0;
+        if (item.visibility > visibility) visibility = item.visibility;
+        before = item;
+    }
+    if (visibility != s->visibility) return refusal(ASL_VISIBILITY, 0);
+    if (ascending) return accepted();
+    struct item *items = record_items(s);
+    size_t repeat = first_repeat(items, s->record_count);
+    free(items);
+    return repeat < s->record_count ? refusal(ASL_DUPLICATE, repeat) : accepted();
+}
+
+// The whole check, but for the table.
+static struct verdict check_segment(struct segment *s, const struct table *t, const uint8_t *bytes, size_t size) {
+    uint64_t refused = read_segment(s, bytes, size);
+    return refused ? refusal(refused, 0) : check_records(s, t);
+}
+
+// Writing a segment -------------------------------------------------------------------------------------------------
+
+struct heading {
+    uint16_t shard;
+    uint64_t snapshot_min, snapshot_max;
+    uint32_t domain;
+    uint64_t seal_snapshot, seal_time;
+    const uint8_t *bloom;
+    uint64_t bloom_size;
+};
+
+// Where the sections of the result stand.
+struct places {
+    uint64_t records, digests, digests_used, extents, footer, length;
+};
+
+// None of these sums can wrap: there are at most 65,536 items, each with fewer than 2^32 extents.
+static struct places places_of(const struct heading *h, const struct item *items, size_t count) {
+    struct places p = {.records = HEADER + h->bloom_size};
+    uint64_t extents = 0;
+    p.digests = p.records + RECORD * count;
+    for (size_t i = 0; i < count; i++) {
+        p.digests_used += items[i].digest_length;
+        extents += items[i].extent_count;
+    }
+    p.extents = p.digests + (p.digests_used + 7) / 8 * 8;
+    p.footer = p.extents + EXTENT * extents;
+    p.length = p.footer + FOOTER;
+    return p;
+}
+
+static void put_header(uint8_t *out, const struct heading *h, const struct places *p, size_t count,
+                       uint8_t visibility) {
+    memset(out, 0, HEADER);
+    memcpy(out + H_MAGIC, MAGIC, sizeof MAGIC);
+    put16(out + H_VERSION, ASL_FORMAT_VERSION);
+    put16(out + H_SHARD, h->shard);
+    put32(out + H_HEADER_SIZE, HEADER);
+    put64(out + H_SNAPSHOT_MIN, h->snapshot_min);
+    put64(out + H_SNAPSHOT_MAX, h->snapshot_max);
+    put64(out + H_RECORD_COUNT, count);
+    put64(out + H_RECORDS_OFFSET, p->records);
+    put64(out + H_BLOOM_OFFSET, h->bloom_size ? HEADER : 0);
+    put64(out + H_BLOOM_SIZE, h->bloom_size);
+    put64(out + H_DIGESTS_OFFSET, p->digests);
+    put64(out + H_DIGESTS_SIZE, p->extents - p->digests);
+    put64(out + H_EXTENTS_OFFSET, p->extents);
+    put64(out + H_EXTENT_COUNT, (p->footer - p->extents) / EXTENT);
+    put32(out + H_DOMAIN, h->domain);
+    out[H_VISIBILITY] = visibility;
+}
+
+static void put_record(uint8_t *r, const struct item *item, uint32_t domain, uint64_t digest, uint64_t extents) {
+    put32(r + R_HASH_ID, item->hash_id);
+    put16(r + R_DIGEST_LENGTH, item->digest_length);
+    put16(r + R_RESERVED, 0);
+    put64(r + R_DIGEST_OFFSET, digest);
+    put64(r + R_EXTENTS_OFFSET, item->gone ? 0 : extents);
+    put32(r + R_EXTENT_COUNT, item->extent_count);
+    put32(r + R_TOTAL, item->total);
+    put32(r + R_DOMAIN, domain);
+    r[R_VISIBILITY] = item->visibility;
+    r[R_IMPORTED] = item->imported;
+    put16(r + R_RESERVED_LAST, 0);
+    put32(r + R_SOURCE, item->source);
+    put32(r + R_FLAGS, item->gone ? GONE : 0);
+}
+
+static void put_extents(uint8_t *out, const struct item *item) {
+    if (item->in_segment) {
+        memcpy(out, item->in_segment, (size_t)EXTENT * item->extent_count);
+        return;
+    }
+    const uint64_t *extent = item->in_list;
+    for (uint32_t i = 0; i < item->extent_count; i++, extent += ASL_EXTENT_NUMBERS, out += EXTENT) {
+        put64(out + X_BLOCK, extent[ASL_EXTENT_BLOCK]);
+        put32(out + X_OFFSET, (uint32_t)extent[ASL_EXTENT_OFFSET]);
+        put32(out + X_LENGTH, (uint32_t)extent[ASL_EXTENT_LENGTH]);
+    }
+}
+
+static void put_segment(uint8_t *out, const struct heading *h, const struct item *items, size_t count,
+                        const struct places *p) {
+    uint64_t record = p->records, digest = p->digests, extents = p->extents;
+    uint8_t visibility = 0;
+    for (size_t i = 0; i < count; i++) {
+        put_record(out + record, &items[i], h->domain, digest, extents);
+        memcpy(out + digest, items[i].digest, items[i].digest_length);
+        put_extents(out + extents, &items[i]);
+        if (items[i].visibility > visibility) visibility = items[i].visibility;
+        record += RECORD;
+        digest += items[i].digest_length;
+        extents += (uint64_t)EXTENT * items[i].extent_count;
+    }
+    memset(out + digest, 0, p->extents - digest);
+    put_header(out, h, p, count, visibility);
+    if (h->bloom_size) memcpy(out + HEADER, h->bloom, h->bloom_size);
+    put64(out + p->footer + F_CRC64, NAME(crc64)(out, p->footer));
+    put64(out + p->footer + F_SEAL_SNAPSHOT, h->seal_snapshot);
+    put64(out + p->footer + F_SEAL_TIME, h->seal_time);
+}
+
+// The tidy form of the items, which it sorts: refusals 16 for the size and 13, or the result.
+static uint64_t finish(const struct heading *h, struct item *items, size_t count, uint8_t *out, size_t out_size,
+                       uint64_t *length) {
+    struct places p = places_of(h, items, count);
+    if (p.length > ASL_LIMIT) return ASL_LARGE;
+    if (p.length > out_size) return ASL_ROOM;
+    if (!ascend(items, count)) qsort(items, count, sizeof *items, compare_for_qsort);
+    put_segment(out, h, items, count, &p);
+    *length = p.length;
+    return ASL_OK;
+}
+
+// What write is lent ------------------------------------------------------------------------------------------------
+
+struct lists {
+    const uint8_t *digests;
+    uint64_t digests_size;
+    const uint64_t *extents;
+    uint64_t extent_count;
+};
+
+static int passes(uint64_t start, uint64_t count, uint64_t end) { return start > end || count > end - start; }
+
+// Whether the extents of a list keep their rule, and their sum, then in *total, fits.
+static int sums_up(const uint64_t *extent, uint64_t count, uint32_t *total) {
+    uint64_t sum = 0;
+    for (; count > 0; count--, extent += ASL_EXTENT_NUMBERS) {
+        uint64_t offset = extent[ASL_EXTENT_OFFSET], length = extent[ASL_EXTENT_LENGTH];
+        if (offset > U32_MOST || length > U32_MOST || offset + length > EXTENT_END_MOST) return 0;
+        sum += length;
+    }
+    *total = (uint32_t)sum;
+    return sum <= U32_MOST;
+}
+
+// Refusals 7, 15, 8, 9, 10 of the entry e; *item is the entry if there is none.
+static uint64_t read_entry(const struct lists *l, const struct table *t, const uint64_t *e, struct item *item) {
+    uint64_t first = e[ASL_ENTRY_FIRST_EXTENT], count = e[ASL_ENTRY_EXTENT_COUNT];
+    if (e[ASL_ENTRY_VISIBILITY] > 1 || e[ASL_ENTRY_IMPORTED] > 1 || e[ASL_ENTRY_GONE] > 1 ||
+        e[ASL_ENTRY_SOURCE] > U32_MOST || (e[ASL_ENTRY_IMPORTED] == 0 && e[ASL_ENTRY_SOURCE] != 0))
+        return ASL_RECORD;
+    if (passes(e[ASL_ENTRY_DIGEST_START], e[ASL_ENTRY_DIGEST_LENGTH], l->digests_size) ||
+        passes(first, count, l->extent_count))
+        return ASL_LIST;
+    if (!allows(t, e[ASL_ENTRY_HASH_ID], e[ASL_ENTRY_DIGEST_LENGTH])) return ASL_DIGEST;
+    if (e[ASL_ENTRY_GONE] ? first != 0 || count != 0 : count == 0 || count > U32_MOST) return ASL_EXTENTS;
+    *item = (struct item){
+        .digest = l->digests + e[ASL_ENTRY_DIGEST_START],
+        .in_list = count ? l->extents + ASL_EXTENT_NUMBERS * first : NULL,
+        .hash_id = (uint32_t)e[ASL_ENTRY_HASH_ID],
+        .source = (uint32_t)e[ASL_ENTRY_SOURCE],
+        .extent_count = (uint32_t)count,
+        .digest_length = (uint16_t)e[ASL_ENTRY_DIGEST_LENGTH],
+        .visibility = (uint8_t)e[ASL_ENTRY_VISIBILITY],
+        .imported = (uint8_t)e[ASL_ENTRY_IMPORTED],
+        .gone = (uint8_t)e[ASL_ENTRY_GONE],
+    };
+    return sums_up(item->in_list, count, &item->total) ? ASL_OK : ASL_TOTAL;
+}
+
+// Refusals 7 to 10, 12 and 15 of the entries, which are in items if there is none.
+static struct verdict read_entries(const struct lists *l, const struct table *t, const uint64_t *entries,
+                                   struct item *items, size_t count) {
+    for (size_t i = 0; i < count; i++) {
+        uint64_t refused = read_entry(l, t, entries + ASL_ENTRY_NUMBERS * i, &items[i]);
+        if (refused) return refusal(refused, i);
+    }
+    if (ascend(items, count)) return accepted();
+    size_t repeat = first_repeat(items, count);
+    return repeat < count ? refusal(ASL_DUPLICATE, repeat) : accepted();
+}
+
+// The services ------------------------------------------------------------------------------------------------------
+
+uint64_t NAME(check)(const uint8_t *table, size_t table_size, const uint8_t *segment, size_t segment_size,
+                     uint64_t *place) {
+    struct table t;
+    struct segment s;
+    *place = 0;
+    if (!read_table(&t, table, table_size)) return ASL_TABLE;
+    struct verdict v = check_segment(&s, &t, segment, segment_size);
+    *place = v.place;
+    return v.number;
+}
+
+static void answer(uint64_t *found, const struct segment *s, const uint8_t *r) {
+    found[ASL_FOUND_STATE] = get32(r + R_FLAGS) == GONE ? ASL_STATE_GONE : ASL_STATE_PRESENT;
+    found[ASL_FOUND_VISIBILITY] = r[R_VISIBILITY];
+    found[ASL_FOUND_DOMAIN] = s->domain;
+    found[ASL_FOUND_IMPORTED] = r[R_IMPORTED];
+    found[ASL_FOUND_SOURCE] = get32(r + R_SOURCE);
+    // A gone record has 0 in all three.
+    found[ASL_FOUND_TOTAL] = get32(r + R_TOTAL);
+    found[ASL_FOUND_EXTENTS_START] = get64(r + R_EXTENTS_OFFSET);
+    found[ASL_FOUND_EXTENTS_COUNT] = get32(r + R_EXTENT_COUNT);
+}
+
+uint64_t NAME(look_up)(const uint8_t *table, size_t table_size, const uint8_t *segment, size_t segment_size,
+                       uint64_t hash_id, const uint8_t *digest, size_t digest_size, uint64_t *found, size_t found_count,
+                       uint64_t *place) {
+    struct table t;
+    struct segment s;
+    *place = 0;
+    if (!read_table(&t, table, table_size)) return ASL_TABLE;
+    if (!allows(&t, hash_id, digest_size)) return ASL_KEY;
+    struct verdict v = check_segment(&s, &t, segment, segment_size);
+    *place = v.place;
+    if (v.number) return v.number;
+    if (found_count < ASL_FOUND_NUMBERS) return ASL_ROOM;
+    memset(found, 0, ASL_FOUND_NUMBERS * sizeof *found);
+    for (uint64_t i = 0; i < s.record_count; i++) {
+        const uint8_t *r = record_at(&s, i);
+        if (get32(r + R_HASH_ID) == hash_id && memcmp(segment + get64(r + R_DIGEST_OFFSET), digest, digest_size) == 0) {
+            answer(found, &s, r);
+            break;
+        }
+    }
+    return ASL_OK;
+}
+
+uint64_t NAME(tidy)(const uint8_t *table, size_t table_size, const uint8_t *segment, size_t segment_size, uint8_t *out,
+                    size_t out_size, uint64_t *length, uint64_t *place) {
+    struct table t;
+    struct segment s;
+    *place = 0;
+    if (!read_table(&t, table, table_size)) return ASL_TABLE;
+    struct verdict v = check_segment(&s, &t, segment, segment_size);
+    *place = v.place;
+    if (v.number) return v.number;
+    const uint8_t *footer = segment + segment_size - FOOTER;
+    struct heading h = {get16(segment + H_SHARD),
+                        get64(segment + H_SNAPSHOT_MIN),
+                        get64(segment + H_SNAPSHOT_MAX),
+                        s.domain,
+                        get64(footer + F_SEAL_SNAPSHOT),
+                        get64(footer + F_SEAL_TIME),
+                        segment + HEADER,
+                        s.bloom_size};
+    struct item *items = record_items(&s);
+    uint64_t refused = finish(&h, items, s.record_count, out, out_size, length);
+    free(items);
+    return refused;
+}
+
+uint64_t NAME(write)(const uint8_t *table, size_t table_size, uint16_t shard, uint64_t snapshot_min,
+                     uint64_t snapshot_max, uint32_t domain, uint64_t seal_snapshot, uint64_t seal_time,
+                     const uint8_t *bloom, size_t bloom_size, const uint64_t *entries, size_t entries_count,
+                     const uint8_t *digests, size_t digests_size, const uint64_t *extents, size_t extents_count,
+                     uint8_t *out, size_t out_size, uint64_t *length, uint64_t *place) {
+    struct table t;
+    struct heading h = {shard, snapshot_min, snapshot_max, domain, seal_snapshot, seal_time, bloom, bloom_size};
+    struct lists l = {digests, digests_size, extents, extents_count / ASL_EXTENT_NUMBERS};
+    size_t count = entries_count / ASL_ENTRY_NUMBERS;
+    *place = 0;
+    if (!read_table(&t, table, table_size)) return ASL_TABLE;
+    if (count > ASL_RECORDS_LIMIT) return ASL_LARGE;
+    if (bloom_size % 8 != 0) return ASL_LAYOUT;
+    struct item *items = allocate(count, sizeof *items);
+    struct verdict v = read_entries(&l, &t, entries, items, count);
+    *place = v.place;
+    if (!v.number) v.number = finish(&h, items, count, out, out_size, length);
+    free(items);
+    return v.number;
+}

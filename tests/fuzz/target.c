@@ -1,0 +1,169 @@
+// A fuzz target: asks the library and bench/plain/plain.c one question, made of the input's bytes, and stops where any
+// part of their answers differs. plain.c is compiled with the fuzzer's counters, so its branches, one for each rule,
+// lead to new inputs. Every buffer is lent at exactly its size (lend.h).
+//
+// The input: a byte whose low two bits are the service and whose next bit makes the checksum right; a byte for the
+// table; two bytes for the room. Look up goes on with a hash id, a length and that many digest bytes, write with the
+// sizes of its lists and their numbers, check and tidy with nothing; what is left is the segment.
+#include <stdio.h>
+#include <string.h>
+
+#include "asl.h"
+#include "lend.h"
+
+struct services {
+    __typeof__(asl_check) *check;
+    __typeof__(asl_look_up) *look_up;
+    __typeof__(asl_tidy) *tidy;
+    __typeof__(asl_write) *write;
+};
+
+extern __typeof__(asl_check) plain_check;
+extern __typeof__(asl_look_up) plain_look_up;
+extern __typeof__(asl_tidy) plain_tidy;
+extern __typeof__(asl_write) plain_write;
+uint64_t plain_crc64(const uint8_t *bytes, size_t size);
+
+static const struct services library = {asl_check, asl_look_up, asl_tidy, asl_write};
+static const struct services plain = {plain_check, plain_look_up, plain_tidy, plain_write};
+
+enum { CHECK, LOOK_UP, TIDY, WRITE };
+enum { TABLE, SEGMENT, DIGEST, BLOOM, ENTRIES, DIGESTS, EXTENTS, FOUND, OUT, SLICES };
+enum { FOOTER = 24 };
+
+struct slice {
+    void *at;
+    size_t size;
+};
+
+struct question {
+    int service;
+    uint64_t hash_id;
+    struct slice slices[SLICES];
+};
+
+struct answer {
+    uint64_t number, place, length;
+    uint8_t found[8 * 9], out[65536];
+};
+
+// The input's bytes ---------------------------------------------------------------------------------------------------
+
+static const uint8_t *rest;
+static size_t rest_size;
+
+static uint8_t take_byte(void) {
+    if (rest_size == 0) return 0;
+    rest_size--;
+    return *rest++;
+}
+
+// A small number or one at an edge, from one byte.
+static uint64_t take_number(void) {
+    static const uint64_t edges[] = {
+        255, 256, 1023, 1024, 1025, 65535, 65536, 65540, 0x7FFFFFFF, 0x80000000, 0xFFFFFFFE, 0xFFFFFFFF, 0x100000000,
+        0x100000007, UINT64_MAX - 3, UINT64_MAX,
+    };
+    uint8_t byte = take_byte();
+    return byte < 240 ? byte : edges[byte - 240];
+}
+
+// Building the question -----------------------------------------------------------------------------------------------
+
+static struct slice lend_slice(int which, size_t size) {
+    static struct stretch stretches[SLICES];
+    return (struct slice){lend(&stretches[which], size), size};
+}
+
+static struct slice take_bytes(int which, size_t size) {
+    struct slice s = lend_slice(which, size);
+    for (size_t i = 0; i < size; i++) ((uint8_t *)s.at)[i] = take_byte();
+    return s;
+}
+
+static struct slice take_numbers(int which, size_t count) {
+    struct slice s = lend_slice(which, 8 * count);
+    for (size_t i = 0; i < count; i++) ((uint64_t *)s.at)[i] = take_number();
+    return s;
+}
+
+// Bit 7 of the choice: a table made of the bytes that follow. Else 1 -> 32, 7 -> 4, perhaps with a byte less or more.
+static struct slice take_table(uint8_t choice) {
+    static const uint64_t usual[] = {1, 32, 7, 4, 0};
+    if (choice & 128) return take_numbers(TABLE, choice % 40);
+    struct slice s = lend_slice(TABLE, choice == 1 ? 31 : choice == 2 ? 33 : 32);
+    memcpy(s.at, usual, s.size);
+    return s;
+}
+
+static void make_checksum_right(struct slice segment) {
+    if (segment.size < ASL_LEAST) return;
+    uint8_t *footer = (uint8_t *)segment.at + segment.size - FOOTER;
+    uint64_t crc = plain_crc64(segment.at, segment.size - FOOTER);
+    memcpy(footer, &crc, sizeof crc);
+}
+
+static struct question take_question(void) {
+    struct question q = {0};
+    uint8_t kind = take_byte(), table = take_byte();
+    size_t room = take_byte();
+    room = room << 8 | take_byte();
+    q.service = kind & 3;
+    q.slices[TABLE] = take_table(table);
+    q.slices[FOUND] = lend_slice(FOUND, 8 * (room % 10));
+    q.slices[OUT] = lend_slice(OUT, room);
+    if (q.service == LOOK_UP) {
+        q.hash_id = take_number();
+        q.slices[DIGEST] = take_bytes(DIGEST, take_byte() % 40);
+    }
+    if (q.service == WRITE) {
+        q.slices[BLOOM] = take_bytes(BLOOM, take_byte() % 17);
+        q.slices[DIGESTS] = take_bytes(DIGESTS, take_byte() % 80);
+        q.slices[EXTENTS] = take_numbers(EXTENTS, take_byte() % 40);
+        q.slices[ENTRIES] = take_numbers(ENTRIES, take_byte());
+        return q;
+    }
+    q.slices[SEGMENT] = take_bytes(SEGMENT, rest_size);
+    if (kind & 4) make_checksum_right(q.slices[SEGMENT]);
+    return q;
+}
+
+// Asking --------------------------------------------------------------------------------------------------------------
+
+static void ask(const struct services *to, const struct question *q, struct answer *a) {
+    const struct slice *s = q->slices, t = s[TABLE], g = s[SEGMENT], found = s[FOUND], out = s[OUT];
+    memset(a, 0x5A, sizeof *a);
+    memset(found.at, 0x5A, found.size);
+    memset(out.at, 0x5A, out.size);
+    switch (q->service) {
+    case CHECK: a->number = to->check(t.at, t.size, g.at, g.size, &a->place); break;
+    case LOOK_UP:
+        a->number = to->look_up(t.at, t.size, g.at, g.size, q->hash_id, s[DIGEST].at, s[DIGEST].size, found.at,
+                                found.size / 8, &a->place);
+        break;
+    case TIDY: a->number = to->tidy(t.at, t.size, g.at, g.size, out.at, out.size, &a->length, &a->place); break;
+    case WRITE:
+        a->number = to->write(t.at, t.size, 2, 3, 4, 5, 6, 7, s[BLOOM].at, s[BLOOM].size, s[ENTRIES].at,
+                              s[ENTRIES].size / 8, s[DIGESTS].at, s[DIGESTS].size, s[EXTENTS].at, s[EXTENTS].size / 8,
+                              out.at, out.size, &a->length, &a->place);
+    }
+    memcpy(a->found, found.at, found.size);
+    memcpy(a->out, out.at, out.size);
+}
+
+int LLVMFuzzerTestOneInput(const uint8_t *input, size_t size);
+
+int LLVMFuzzerTestOneInput(const uint8_t *input, size_t size) {
+    static struct answer ours, theirs;
+    rest = input;
+    rest_size = size;
+    struct question q = take_question();
+    ask(&library, &q, &ours);
+    ask(&plain, &q, &theirs);
+    if (memcmp(&ours, &theirs, sizeof ours) != 0) {
+        fprintf(stderr, "service %d: the library says %d at %d, plain.c %d at %d\n", q.service, (int)ours.number,
+                (int)ours.place, (int)theirs.number, (int)theirs.place);
+        abort();
+    }
+    return 0;
+}
