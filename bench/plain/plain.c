@@ -3,7 +3,8 @@
 // there is no memory, since document 01 has no refusal for that.
 //
 // NAME gives the functions their names: those of asl.h by default, so that this links in the library's place. Compiled
-// with -D'NAME(x)=plain_##x' it links beside it. NAME(crc64) is its checksum.
+// with -D'NAME(x)=plain_##x' it links beside it. NAME(crc64) is its checksum, which takes eight bytes at a step, or one
+// with -DSTRIDE=1, as the library's plain engine does.
 #include "asl.h"
 
 #include <stdlib.h>
@@ -11,6 +12,9 @@
 
 #ifndef NAME
 #define NAME(x) asl_##x
+#endif
+#ifndef STRIDE
+#define STRIDE 8
 #endif
 
 // The sizes of the four structures, and where their fields stand in them.
@@ -111,7 +115,7 @@ uint64_t NAME(crc64)(const uint8_t *bytes, size_t size);
 
 uint64_t NAME(crc64)(const uint8_t *bytes, size_t size) {
     uint64_t c = UINT64_MAX;
-    for (; size >= 8; size -= 8, bytes += 8) {
+    for (; STRIDE == 8 && size >= 8; size -= 8, bytes += 8) {
         c ^= get64(bytes);
         c = after[7][c & 255] ^ after[6][c >> 8 & 255] ^ after[5][c >> 16 & 255] ^ after[4][c >> 24 & 255] ^
             after[3][c >> 32 & 255] ^ after[2][c >> 40 & 255] ^ after[1][c >> 48 & 255] ^ after[0][c >> 56];

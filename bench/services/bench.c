@@ -1,11 +1,11 @@
 /*
- * The services of the library beside the same services in plain C (bench/plain), on the same segments, in one run.
+ * The services of the library beside the same services in plain C (bench/plain), on the same segments, in one run. The C
+ * program is there twice: its checksum takes one byte at a step, as the library's plain engine does, or eight.
  *
  * For each size and order it prints one line to a service: name, records, order, bytes of the segment, then for the
- * library and for the C program the median, the fastest and the slowest time of a call in nanoseconds. The two take
- * turns, so that both see the machine in the same state, and every buffer was touched before.
- * Two more lines to a segment give the checksum alone (the library's engine and the C program's) and liblzma's CRC-64
- * beside a plain pass over the same bytes.
+ * library, for C by one byte and for C by eight the median, the fastest and the slowest time of a call in nanoseconds.
+ * They take turns, so that all see the machine in the same state, and every buffer was touched before. Two more lines
+ * to a segment give the three checksums alone, and liblzma's CRC-64 and a plain pass over the same bytes.
  */
 #include "asl.h"
 
@@ -15,15 +15,37 @@
 #include <string.h>
 #include <time.h>
 
-uint64_t plain_check(const uint8_t *, size_t, const uint8_t *, size_t, uint64_t *);
-uint64_t plain_look_up(const uint8_t *, size_t, const uint8_t *, size_t, uint64_t, const uint8_t *, size_t, uint64_t *,
-                       size_t, uint64_t *);
-uint64_t plain_tidy(const uint8_t *, size_t, const uint8_t *, size_t, uint8_t *, size_t, uint64_t *, uint64_t *);
-uint64_t plain_write(const uint8_t *, size_t, uint16_t, uint64_t, uint64_t, uint32_t, uint64_t, uint64_t,
-                     const uint8_t *, size_t, const uint64_t *, size_t, const uint8_t *, size_t, const uint64_t *,
-                     size_t, uint8_t *, size_t, uint64_t *, uint64_t *);
-uint64_t plain_crc64(const uint8_t *, size_t);
+/* The functions of one of the three. */
+struct services {
+    uint64_t (*check)(const uint8_t *, size_t, const uint8_t *, size_t, uint64_t *);
+    uint64_t (*look_up)(const uint8_t *, size_t, const uint8_t *, size_t, uint64_t, const uint8_t *, size_t, uint64_t *,
+                        size_t, uint64_t *);
+    uint64_t (*tidy)(const uint8_t *, size_t, const uint8_t *, size_t, uint8_t *, size_t, uint64_t *, uint64_t *);
+    uint64_t (*write)(const uint8_t *, size_t, uint16_t, uint64_t, uint64_t, uint32_t, uint64_t, uint64_t,
+                      const uint8_t *, size_t, const uint64_t *, size_t, const uint8_t *, size_t, const uint64_t *,
+                      size_t, uint8_t *, size_t, uint64_t *, uint64_t *);
+    uint64_t (*checksum)(const uint8_t *, size_t);
+};
+
+#define DECLARED(name)                                                                                                 \
+    uint64_t name##_check(const uint8_t *, size_t, const uint8_t *, size_t, uint64_t *);                               \
+    uint64_t name##_look_up(const uint8_t *, size_t, const uint8_t *, size_t, uint64_t, const uint8_t *, size_t,       \
+                            uint64_t *, size_t, uint64_t *);                                                           \
+    uint64_t name##_tidy(const uint8_t *, size_t, const uint8_t *, size_t, uint8_t *, size_t, uint64_t *, uint64_t *); \
+    uint64_t name##_write(const uint8_t *, size_t, uint16_t, uint64_t, uint64_t, uint32_t, uint64_t, uint64_t,         \
+                          const uint8_t *, size_t, const uint64_t *, size_t, const uint8_t *, size_t,                  \
+                          const uint64_t *, size_t, uint8_t *, size_t, uint64_t *, uint64_t *);                        \
+    uint64_t name##_crc64(const uint8_t *, size_t);
+DECLARED(by_one)
+DECLARED(by_eight)
 uint64_t crc64_plain(const uint8_t *, size_t); /* the library's engine */
+
+enum { LIBRARY, BY_ONE, BY_EIGHT, SIDES };
+static const struct services SERVICES[SIDES] = {
+    {asl_check, asl_look_up, asl_tidy, asl_write, crc64_plain},
+    {by_one_check, by_one_look_up, by_one_tidy, by_one_write, by_one_crc64},
+    {by_eight_check, by_eight_look_up, by_eight_tidy, by_eight_write, by_eight_crc64},
+};
 
 enum { DIGEST = 32, HEADER = 112, RECORD = 48, FOOTER = 24, EXTENTS_MOST = 8, ROUNDS_MOST = 400 };
 static const uint64_t PAIRS[] = {1, DIGEST};
@@ -58,11 +80,11 @@ static void must(int good, const char *what) {
     exit(1);
 }
 
-static uint64_t write_with(int ours, struct job *j, uint64_t *length) {
+static uint64_t write_with(int side, struct job *j, uint64_t *length) {
     uint64_t place = 0;
-    return (ours ? asl_write : plain_write)((const uint8_t *)PAIRS, sizeof PAIRS, 1, 2, 3, 4, 5, 6, NULL, 0, j->entries,
-                                            j->entries_count, j->digests, j->digests_size, j->extents,
-                                            j->extents_count, j->out, j->room, length, &place);
+    return SERVICES[side].write((const uint8_t *)PAIRS, sizeof PAIRS, 1, 2, 3, 4, 5, 6, NULL, 0, j->entries,
+                                j->entries_count, j->digests, j->digests_size, j->extents, j->extents_count, j->out,
+                                j->room, length, &place);
 }
 
 static void put_entry(struct job *j, size_t k, size_t first, size_t count) {
@@ -98,16 +120,16 @@ static void make(struct job *j, size_t records) {
     j->room = HEADER + (RECORD + DIGEST) * records + 16 * extents + FOOTER + 8;
     j->out = need(j->room);
     uint64_t length = 0, again = 0;
-    must(write_with(0, j, &length) == ASL_OK, "the C program does not write");
+    must(write_with(BY_EIGHT, j, &length) == ASL_OK, "the C program does not write");
     j->size = length;
     j->segment = need(j->size);
     memcpy(j->segment, j->out, j->size);
-    must(write_with(1, j, &again) == ASL_OK && again == length && !memcmp(j->segment, j->out, length),
+    must(write_with(LIBRARY, j, &again) == ASL_OK && again == length && !memcmp(j->segment, j->out, length),
          "the two write different segments");
 }
 
 static void put_checksum(struct job *j) {
-    uint64_t sum = plain_crc64(j->segment, j->size - FOOTER);
+    uint64_t sum = by_eight_crc64(j->segment, j->size - FOOTER);
     for (int i = 0; i < 8; i++) j->segment[j->size - FOOTER + i] = (uint8_t)(sum >> (8 * i));
 }
 
@@ -138,44 +160,42 @@ static void sort_entries(struct job *j) {
 
 static volatile uint64_t kept; /* so that no call is left out */
 
-static void call_check(int ours, struct job *j) {
+static void call_check(int side, struct job *j) {
     uint64_t place = 0;
-    kept = (ours ? asl_check : plain_check)((const uint8_t *)PAIRS, sizeof PAIRS, j->segment, j->size, &place);
+    kept = SERVICES[side].check((const uint8_t *)PAIRS, sizeof PAIRS, j->segment, j->size, &place);
     must(kept == ASL_OK, "check refuses");
 }
 
 /* A key that a record in the middle has. */
-static void call_look_up(int ours, struct job *j) {
+static void call_look_up(int side, struct job *j) {
     uint64_t place = 0, found[ASL_FOUND_NUMBERS];
     uint8_t absent[DIGEST] = {0};
     const uint8_t *digest = j->records ? j->digests + DIGEST * (j->records / 2) : absent;
-    kept = (ours ? asl_look_up : plain_look_up)((const uint8_t *)PAIRS, sizeof PAIRS, j->segment, j->size, 1, digest,
-                                                DIGEST, found, ASL_FOUND_NUMBERS, &place);
+    kept = SERVICES[side].look_up((const uint8_t *)PAIRS, sizeof PAIRS, j->segment, j->size, 1, digest, DIGEST, found,
+                                  ASL_FOUND_NUMBERS, &place);
     must(kept == ASL_OK && found[ASL_FOUND_STATE] == (j->records ? ASL_STATE_PRESENT : ASL_STATE_ABSENT),
          "look up does not find");
 }
 
-static void call_tidy(int ours, struct job *j) {
+static void call_tidy(int side, struct job *j) {
     uint64_t place = 0, length = 0;
-    kept = (ours ? asl_tidy : plain_tidy)((const uint8_t *)PAIRS, sizeof PAIRS, j->segment, j->size, j->out, j->room,
-                                          &length, &place);
+    kept = SERVICES[side].tidy((const uint8_t *)PAIRS, sizeof PAIRS, j->segment, j->size, j->out, j->room, &length,
+                               &place);
     must(kept == ASL_OK && length == j->size, "tidy refuses");
 }
 
-static void call_write(int ours, struct job *j) {
+static void call_write(int side, struct job *j) {
     uint64_t length = 0;
-    kept = write_with(ours, j, &length);
+    kept = write_with(side, j, &length);
     must(kept == ASL_OK && length == j->size, "write refuses");
 }
 
-static void call_checksum(int ours, struct job *j) {
-    kept = (ours ? crc64_plain : plain_crc64)(j->segment, j->size - FOOTER);
-}
+static void call_checksum(int side, struct job *j) { kept = SERVICES[side].checksum(j->segment, j->size - FOOTER); }
 
-/* liblzma's checksum in the place of ours, and a sum of the bytes eight at a time in the place of the C program's. */
-static void call_memory(int ours, struct job *j) {
+/* Other passes over the same bytes: liblzma's checksum, and a sum of the bytes, eight at a time. */
+static void call_memory(int side, struct job *j) {
     uint64_t sum = 0, word;
-    if (ours) {
+    if (side == LIBRARY) {
         kept = lzma_crc64(j->segment, j->size - FOOTER, 0);
         return;
     }
@@ -198,28 +218,29 @@ static int ascending(const void *a, const void *b) {
 }
 
 /* One sample is as many calls as take some 50 microseconds at least, so that the clock's own steps do not show. */
-static double sample(void (*call)(int, struct job *), int ours, struct job *j, unsigned calls) {
+static double sample(void (*call)(int, struct job *), int side, struct job *j, unsigned calls) {
     double began = seconds();
-    for (unsigned i = 0; i < calls; i++) call(ours, j);
+    for (unsigned i = 0; i < calls; i++) call(side, j);
     return 1e9 * (seconds() - began) / calls;
 }
 
-static unsigned calls_of(void (*call)(int, struct job *), int ours, struct job *j) {
+static unsigned calls_of(void (*call)(int, struct job *), int side, struct job *j) {
     unsigned calls = 1;
-    while (calls < 1u << 20 && sample(call, ours, j, calls) * calls < 50000) calls *= 2;
+    while (calls < 1u << 20 && sample(call, side, j, calls) * calls < 50000) calls *= 2;
     return calls;
 }
 
 static void measure(const char *service, const char *order, void (*call)(int, struct job *), struct job *j) {
-    static double times[2][ROUNDS_MOST];
-    unsigned calls[2] = {calls_of(call, 0, j), calls_of(call, 1, j)};
+    static double times[SIDES][ROUNDS_MOST];
+    unsigned calls[SIDES];
     size_t rounds = 0;
+    for (int side = 0; side < SIDES; side++) calls[side] = calls_of(call, side, j);
     for (double began = seconds(); rounds < 5 || (rounds < ROUNDS_MOST && seconds() - began < ROUND_SECONDS); rounds++)
-        for (int ours = 0; ours < 2; ours++) times[ours][rounds] = sample(call, ours, j, calls[ours]);
+        for (int side = 0; side < SIDES; side++) times[side][rounds] = sample(call, side, j, calls[side]);
     printf("%s %zu %s %zu", service, j->records, order, j->size);
-    for (int ours = 1; ours >= 0; ours--) {
-        qsort(times[ours], rounds, sizeof(double), ascending);
-        printf(" %.1f %.1f %.1f", times[ours][rounds / 2], times[ours][0], times[ours][rounds - 1]);
+    for (int side = 0; side < SIDES; side++) {
+        qsort(times[side], rounds, sizeof(double), ascending);
+        printf(" %.1f %.1f %.1f", times[side][rounds / 2], times[side][0], times[side][rounds - 1]);
     }
     printf("\n");
     fflush(stdout);

@@ -1,7 +1,7 @@
 """report.py TIMES [FOLDER]: the table, and in FOLDER the table and a plot, of what `bench` measured.
 
-A line of TIMES: service, records, order, bytes, then median, fastest and slowest nanoseconds of a call of the library
-and of the C program.
+A line of TIMES: service, records, order, bytes, then median, fastest and slowest nanoseconds of a call of the library,
+of the C program whose checksum takes one byte at a step, and of that whose checksum takes eight.
 """
 import datetime
 import math
@@ -47,31 +47,35 @@ def spread(median, fastest, slowest):
 
 def apart(times, service, records, order):
     """The ratio without the time of the checksums, or nothing where little else is left to compare."""
-    ours, theirs = (times[service, records, order][1][i] for i in (0, 3))
-    engine, plain = (times["checksum", records, order][1][i] for i in (0, 3))
-    left = [ours - CHECKSUMS[service] * engine, theirs - CHECKSUMS[service] * plain]
-    return f"{left[0] / left[1]:.2f}" if min(left) > 0 else "-"
+    library, by_eight = (
+        times[service, records, order][1][i] - CHECKSUMS[service] * times["checksum", records, order][1][i] for i in (0, 6)
+    )
+    return f"{library / by_eight:.2f}" if min(library, by_eight) > 0 else "-"
 
 
 def table(times):
-    rows = ["| service | records | order | bytes | library | C | ratio | without checksum |", "|---|---|---|---|---|---|---|---|"]
+    rows = [
+        "| service | records | order | bytes | library | C, checksum by 1 | ratio | C, checksum by 8 | ratio | ratio without checksums |",
+        "|---|---|---|---|---|---|---|---|---|---|",
+    ]
     for (service, records, order), (size, numbers) in times.items():
         if service not in CHECKSUMS:
             continue
         rows.append(
-            f"| {service} | {records:,} | {order} | {size:,} | {spread(*numbers[:3])} | {spread(*numbers[3:])} "
-            f"| {numbers[0] / numbers[3]:.2f} | {apart(times, service, records, order)} |"
+            f"| {service} | {records:,} | {order} | {size:,} | {spread(*numbers[:3])} "
+            f"| {spread(*numbers[3:6])} | {numbers[0] / numbers[3]:.2f} | {spread(*numbers[6:])} | {numbers[0] / numbers[6]:.2f} "
+            f"| {apart(times, service, records, order)} |"
         )
     return rows
 
 
 def memory(times):
-    rows = ["| bytes | library's engine | C's engine | liblzma | plain pass |", "|---|---|---|---|---|"]
+    rows = ["| bytes | library's engine | C by 1 | C by 8 | liblzma | plain pass |", "|---|---|---|---|---|---|"]
     for (service, records, order), (size, engines) in times.items():
         if service != "checksum" or order != "tidy" or size < 1000:
             continue
         others = times["lzma_and_pass", records, order][1]
-        speeds = [f"{1000 * size / t:,.0f} MB/s" for t in (engines[0], engines[3], others[0], others[3])]
+        speeds = [f"{1000 * size / t:,.0f} MB/s" for t in (*engines[::3], *others[:6:3])]
         rows.append(f"| {size:,} | " + " | ".join(speeds) + " |")
     return rows
 
@@ -99,7 +103,7 @@ def page(times):
     )
 
 
-# The plot: a line for the library (full) and one for C (dashed) for each service, both axes by powers of ten.
+# The plot: a line for the library (full) and one for C with the same checksum (dashed) for each service, both axes by powers of ten.
 COLOURS = {"check": "#0b6e4f", "look_up": "#1f5fa8", "tidy": "#b3541e", "write": "#7a3b8f"}
 WIDE, HIGH, LEFT, TOP = 380, 340, 60, 40
 
@@ -138,7 +142,7 @@ def plot(times):
         x = LEFT + 150 * k
         out.append(line([(x, TOP + HIGH + 42), (x + 30, TOP + HIGH + 42)], colour, False))
         out.append(f'<text x="{x + 36}" y="{TOP + HIGH + 46}">{service}</text>')
-    out.append(f'<text x="{LEFT + 600}" y="{TOP + HIGH + 46}">full: the library; dashed: C</text></svg>')
+    out.append(f'<text x="{LEFT + 600}" y="{TOP + HIGH + 46}">full: the library; dashed: C, checksum by 1</text></svg>')
     return "\n".join(out) + "\n"
 
 
