@@ -37,7 +37,7 @@ fn check_contents(pairs: &[u64], seg: &[u8], h: Header) -> Verdict
     }
     let at = h.records_offset.0 as usize;
     let n = h.record_count as usize;
-    order::check_keys(Kind::Records(at), seg, pairs, n)
+    fresh::check_keys(Kind::Records(at), seg, pairs, n)
 }
 
 // The checksum, and then the contents.

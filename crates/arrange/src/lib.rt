@@ -1,26 +1,12 @@
 // The tidy form of items: their numbers sorted by key, and the items written in that order. The numbers stand in arrays on the stack,
 // small ones for a small segment, so that it does not pay for the largest.
-ghost use mathlib.Core.Path.{_≡_};
 ghost use Prim.Native.Nat.{_≤_};
 ghost use lib.ListN.{length};
-ghost use Rattle.segment.specs.Meaning.{countFrom};
 ghost use Rattle.emit.specs.Emit.{Wrote};
 ghost use Rattle.arrange.specs.Arrange.{AllLines, itemsForm};
 use keys::Kind;
 use rules::Written;
 use segment::header::Heading;
-
-// 0, 1, 2 and so on.
-fn count_up(numbers: &mut [u16])
-    requires { ⌜ length (now numbers) ≤ 65536 ⌝ }
-    ensures { λ _. ⌜ now (numbers .exit) ≡ countFrom 0 (length (now (numbers .entry))) ⌝ }
-{
-    let mut i = 0;
-    while i < numbers.len() {
-        numbers[i] = i as u16;
-        i += 1;
-    }
-}
 
 // As many items as there are numbers, written in tidy order.
 fn arrange(
@@ -39,7 +25,7 @@ fn arrange(
     requires { ⌜ length (now numbers) ≤ 65536 ⌝ }
     ensures { λ r. ⌜ Wrote (itemsForm t (now (bloom .entry)) kind (now (bytes .entry)) (now (list .entry)) (now (extents .entry)) (length (now (numbers .entry)))) (now (out .entry)) (now (out .exit)) r ⌝ }
 {
-    count_up(numbers);
+    order::count_up(numbers);
     order::sort(kind, bytes, list, numbers, spare);
     emit::emit(t, bloom, kind, bytes, list, extents, numbers, out)
 }

@@ -74,5 +74,5 @@ pub fn check_request(
         }
         Verdict::Accepted => {}
     }
-    order::check_keys(Kind::Entries, digests, entries, n)
+    fresh::check_keys(Kind::Entries, digests, entries, n)
 }

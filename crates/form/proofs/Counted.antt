@@ -1,9 +1,12 @@
 -- What holds of each element, or of each two, of a list f k, f (k + 1), .., n of them: said of the list and said of the numbers.
 -- Assumes nothing.
 use Prim.Native.Nat.{ℕ, zero, suc, _+_, _≤_, _<_}
-use mathlib.Core.Path.{_≡_, refl, sym, ap, subst, _∙_}
-use mathlib.Core.Logic.{_↔_, by-cases, ⊎-elim, ∥∥₁-elim}
+use mathlib.Core.Path.{_≡_, sym, ap, subst, _∙_}
+use mathlib.Core.Logic.{_↔_, Iff·rfl, by-cases, ⊎-elim, ∥∥₁-elim}
 use mathlib.Core.List.{
+  List,
+  [],
+  _∷_,
   map,
   List·Mem,
   List·Memᴰ,
@@ -19,15 +22,15 @@ use mathlib.Core.List.{
 }
 use native.Mathlib.Decide.{ℕ-discrete}
 use native.Mathlib.Omega.{arith}
-use lib.ListN.{length, getD}
+use lib.ListN.{length, getD, length-map}
 use Rattle.segment.specs.Meaning.{countFrom}
 use Rattle.order.specs.Order.{Each}
+use Rattle.order.proofs.Counting.{count-length}
+use Rattle.order.proofs.Each.{counted-iff}
 
 module _ {A : Type 0} (f : ℕ → A) where
   pub counted-long : (k n : ℕ) → length (map f (countFrom k n)) ≡ n
-  unfolding countFrom
-  counted-long k zero = refl
-  counted-long k (suc n) = ap suc (counted-long (suc k) n)
+  counted-long k n = length-map (countFrom k n) f ∙ count-length k n
 
   -- the members are the elements
   pub counted-at : (k n i : ℕ) (d : A) → i < n → getD (map f (countFrom k n)) i d ≡ f (k + i)
@@ -54,21 +57,16 @@ module _ {A : Type 0} (f : ℕ → A) where
       (List·Memᴰ·cases-cons m)
 
   module _ (P : A → Type 0) where
-    counted-each : (k n : ℕ) → ((i : ℕ) → k ≤ i → i < k + n → P (f i)) → Each P (map f (countFrom k n))
-    unfolding countFrom Each
-    counted-each k zero h = tt
-    counted-each k (suc n) h = (h k (omega arith) (omega arith), counted-each (suc k) n (λ i l u. h i (omega arith) (omega arith)))
-
-    each-counted : (k n : ℕ) → Each P (map f (countFrom k n)) → (i : ℕ) → k ≤ i → i < k + n → P (f i)
-    unfolding countFrom Each
-    each-counted k zero e i l u = absurd (omega arith)
-    each-counted k (suc n) e i l u =
-        by-cases (ℕ-discrete i k)
-        (λ (q : i ≡ k). rw q (e .0))
-        (λ (q : ¬ (i ≡ k)). each-counted (suc k) n (e .1) i (omega arith) (omega arith))
+    each-map : (l : List ℕ) → Each P (map f l) ↔ Each (λ (i : ℕ). P (f i)) l
+    unfolding Each
+    each-map [] = Iff·rfl
+    each-map (x ∷ xs) = let e = each-map xs in (λ h. (h .0, e .0 (h .1)), λ h. (h .0, e .1 (h .1)))
 
     pub each-iff : (n : ℕ) → Each P (map f (countFrom 0 n)) ↔ ((i : ℕ) → i < n → P (f i))
-    each-iff n = (λ e i l. each-counted 0 n e i (omega arith) (omega arith), λ h. counted-each 0 n (λ i l u. h i (omega arith)))
+    each-iff n =
+        let e = each-map (countFrom 0 n) in
+        let c = counted-iff (λ (i : ℕ). P (f i)) n in
+        (λ h. c .0 (e .0 h), λ h. e .1 (c .1 h))
 
   module _ (R : A → A → Type 0) (prop : (a b : A) → IsProp (R a b)) where
     counted-pairwise : (k n : ℕ) → ((i j : ℕ) → k ≤ i → i < j → j < k + n → R (f i) (f j)) → Pairwise R (map f (countFrom k n))

@@ -1,7 +1,11 @@
--- What holds of each element of a list: at a place, of a part, of the elements in another order, of the numbers counted up.
+-- What holds of each element of a list: at a place, of a part, of two lists in one, of the elements in another order, of the numbers
+-- counted up.
 -- Assumes nothing.
-use Prim.Native.Nat.{ℕ, zero, suc, _+_, _<_}
-use mathlib.Core.List.{List, [], _∷_, List·Permᴰ, List·Permᴰ·nil, List·Permᴰ·cons, List·Permᴰ·swap, List·Permᴰ·trans}
+use Prim.Native.Nat.{ℕ, zero, suc, _+_, _≤_, _<_}
+use mathlib.Core.Path.{_≡_}
+use mathlib.Core.Logic.{_↔_, by-cases}
+use mathlib.Core.List.{List, [], _∷_, _++_, List·Permᴰ, List·Permᴰ·nil, List·Permᴰ·cons, List·Permᴰ·swap, List·Permᴰ·trans}
+use native.Mathlib.Decide.{ℕ-discrete}
 use native.Mathlib.Nat.{le-of-suc-le-suc, not-suc-le-zero}
 use native.Mathlib.Omega.{arith}
 use lib.ListN.{length, getD, take, drop}
@@ -15,6 +19,11 @@ module _ (P : ℕ → Type 0) where
   each-at (x ∷ xs) zero e h = e .0
   each-at (x ∷ xs) (suc i) e h = each-at xs i (e .1) (le-of-suc-le-suc h)
 
+  pub each-of : (l : List ℕ) → ((i : ℕ) → i < length l → P (getD l i 0)) → Each P l
+  unfolding Each
+  each-of [] h = tt
+  each-of (x ∷ xs) h = (h 0 (omega arith), each-of xs (λ i l. h (suc i) (omega arith)))
+
   pub each-take : (m : ℕ) (l : List ℕ) → Each P l → Each P (take m l)
   unfolding Each
   each-take zero l e = tt
@@ -27,14 +36,28 @@ module _ (P : ℕ → Type 0) where
   each-drop (suc m) [] e = tt
   each-drop (suc m) (x ∷ xs) e = each-drop m xs (e .1)
 
-  each-from : (k n : ℕ) → ((i : ℕ) → i < k + n → P i) → Each P (countFrom k n)
+  pub each-append : (l r : List ℕ) → Each P l → Each P r → Each P (l ++ r)
+  unfolding Each
+  each-append [] r e f = f
+  each-append (x ∷ xs) r e f = (e .0, each-append xs r (e .1) f)
+
+  -- of the numbers k, k + 1, .., n of them
+  counted-each : (k n : ℕ) → ((i : ℕ) → k ≤ i → i < k + n → P i) → Each P (countFrom k n)
   unfolding Each countFrom
-  each-from k zero h = tt
-  each-from k (suc n) h = (h k (omega arith), each-from (suc k) n (λ i l. h i (omega arith)))
+  counted-each k zero h = tt
+  counted-each k (suc n) h = (h k (omega arith) (omega arith), counted-each (suc k) n (λ i l u. h i (omega arith) (omega arith)))
+
+  each-counted : (k n : ℕ) → Each P (countFrom k n) → (i : ℕ) → k ≤ i → i < k + n → P i
+  unfolding Each countFrom
+  each-counted k zero e i l u = absurd (omega arith)
+  each-counted k (suc n) e i l u =
+      by-cases (ℕ-discrete i k)
+      (λ (q : i ≡ k). rw q (e .0))
+      (λ (q : ¬ (i ≡ k)). each-counted (suc k) n (e .1) i (omega arith) (omega arith))
 
   -- so the numbers of n items that can be read are numbers to sort
-  pub each-counted : (n : ℕ) → ((i : ℕ) → i < n → P i) → Each P (countFrom 0 n)
-  each-counted n h = each-from 0 n (λ i l. h i (omega arith))
+  pub counted-iff : (n : ℕ) → Each P (countFrom 0 n) ↔ ((i : ℕ) → i < n → P i)
+  counted-iff n = (λ e i l. each-counted 0 n e i (omega arith) (omega arith), λ h. counted-each 0 n (λ i l u. h i (omega arith)))
 
 pub each-permuted : {A : Type 0} (P : A → Type 0) {xs ys : List A} → List·Permᴰ xs ys → Each P xs → Each P ys
 unfolding Each

@@ -7,11 +7,12 @@ use mathlib.Core.List.{List, [], _∷_, _++_, append-nil}
 use native.Mathlib.Omega.{arith}
 use borrow.Rule.Slice.PartMut.{putMid}
 use lib.ListN.{length, take, drop, length-append, length-drop, take-append-drop, drop-of-length-le}
-use lib.Seq.{take-at, drop-at, take-all, length-take-le}
+use lib.Seq.{take-at, drop-at, length-take-le}
 use Rattle.segment.specs.Keys.{insert, sortBy}
-use Rattle.order.specs.Order.{Each, mergeBy}
-use Rattle.order.proofs.Arranged.{each-sort}
-use Rattle.order.proofs.Each.{each-take, each-drop}
+use Rattle.order.specs.Order.{Each, mergeBy, Joins}
+use Rattle.order.proofs.Arranged.{each-sort, sort-ascends}
+use Rattle.order.proofs.Each.{each-take, each-drop, each-append}
+use Rattle.order.proofs.Joining.{second, second-all}
 use Rattle.order.proofs.Sorting.{Total, merge-sorts, sort-length}
 
 pub short-sorted : (leq : ℕ → ℕ → Bool) (a : List ℕ) → length a < 2 → a ≡ sortBy leq a
@@ -29,9 +30,6 @@ half a = length a / 2
 abbrev once : List ℕ → List ℕ → List ℕ
 once a p = p ++ drop (half a) a
 
-abbrev second : List ℕ → ℕ → List ℕ
-second w m = take (length w - m) (drop m w)
-
 abbrev twice : List ℕ → List ℕ → List ℕ → List ℕ
 twice a p q = putMid (half a) (length (once a p) - half a) (once a p) q
 
@@ -44,9 +42,6 @@ first-less a t k h = omega (arith, half-long a)
 
 pub first-room : (a t₀ : List ℕ) → length a ≤ length t₀ → length (take (half a) a) ≤ length t₀
 first-room a t₀ h = omega (arith, half-long a)
-
-second-all : (w : List ℕ) (m : ℕ) → second w m ≡ drop m w
-second-all w m = take-all (length w - m) (drop m w) (omega (arith, length-drop m w))
 
 module _ (leq : ℕ → ℕ → Bool) (a p : List ℕ) (e : p ≡ sortBy leq (take (half a) a)) where
   p-long : length p ≡ half a
@@ -78,34 +73,31 @@ module _ (leq : ℕ → ℕ → Bool) (a p : List ℕ) (e : p ≡ sortBy leq (ta
     first-twice : take (half a) (twice a p q) ≡ p
     first-twice = ap (take (half a)) twice-is ∙ take-at p q (half a) p-long
 
-    second-twice : second (twice a p q) (half a) ≡ q
-    second-twice = second-all (twice a p q) (half a) ∙ ap (drop (half a)) twice-is ∙ drop-at p q (half a) p-long
-
     pub twice-long : length (twice a p q) ≡ length a
     twice-long = ap length twice-is ∙ length-append p q ∙ omega (arith, p-long, q-long)
 
-    -- what merge asks
-    pub first-counted : half a ≡ length (take (half a) (twice a p q))
-    first-counted = sym (ap length first-twice ∙ p-long)
+    -- what join asks
+    pub twice-each : (P : ℕ → Type 0) → Each P a → Each P (twice a p q)
+    twice-each P h =
+        rw (twice-is, e, f, second-is)
+        (each-append P (sortBy leq (take (half a) a)) (sortBy leq (drop (half a) a))
+        (each-sort leq P (take (half a) a) (each-take P (half a) a h))
+        (each-sort leq P (drop (half a) a) (each-drop P (half a) a h)))
 
-    pub merge-first : (P : ℕ → Type 0) → Each P a → Each P (take (half a) (twice a p q))
-    merge-first P h = rw (first-twice, e) (each-sort leq P (take (half a) a) (each-take P (half a) a h))
+    pub twice-joins : Total leq → 2 ≤ length a → Joins leq (half a) (twice a p q)
+    twice-joins o h = record {
+      some = omega arith;
+      others = omega (arith, twice-long);
+      ascends = rw (first-twice, e) (sort-ascends leq o (take (half a) a));
+    }
 
-    pub merge-second : (P : ℕ → Type 0) → Each P a → Each P (second (twice a p q) (half a))
-    merge-second P h = rw (second-twice, f, second-is) (each-sort leq P (drop (half a) a) (each-drop P (half a) a h))
+    pub twice-room : (t₀ t₁ t₂ : List ℕ) → length a ≤ length t₀ → length t₁ ≡ length t₀ → length t₂ ≡ length t₁ → length (twice a p q) ≤ length t₂
+    twice-room t₀ t₁ t₂ h k l = omega (arith, twice-long)
 
-    parts-long : length (take (half a) (twice a p q)) + length (second (twice a p q) (half a)) ≡ length a
-    parts-long = omega (arith, ap length first-twice, ap length second-twice, p-long, q-long)
-
-    pub merge-room : (t₀ t₁ t₂ : List ℕ) → length a ≤ length t₀ → length t₁ ≡ length t₀ → length t₂ ≡ length t₁
-        → length (take (half a) (twice a p q)) + length (second (twice a p q) (half a)) ≤ length t₂
-    merge-room t₀ t₁ t₂ h k l = omega (arith, parts-long)
-
-    -- the two sorted halves, merged and copied back, are the whole, sorted
-    pub halves-sort : Total leq → (t r : List ℕ)
-        → take (length (take (half a) (twice a p q)) + length (second (twice a p q) (half a))) t ≡ mergeBy leq (take (half a) (twice a p q)) (second (twice a p q) (half a))
-        → r ≡ take (length (twice a p q)) t → r ≡ sortBy leq a
-    halves-sort o t r m c =
-        c ∙ ap (λ (n : ℕ). take n t) (twice-long ∙ sym parts-long) ∙ m
-        ∙ (rw (first-twice, second-twice, e, f, second-is) (merge-sorts leq o (take (half a) a) (drop (half a) a)))
+    -- the two sorted halves, joined, are the whole, sorted
+    pub halves-sort : Total leq → (r : List ℕ) → r ≡ mergeBy leq (take (half a) (twice a p q)) (drop (half a) (twice a p q)) → r ≡ sortBy leq a
+    halves-sort o r m =
+        m
+        ∙ ap (λ (l : List ℕ). mergeBy leq (take (half a) l) (drop (half a) l)) twice-is
+        ∙ rw (take-at p q (half a) p-long, drop-at p q (half a) p-long, e, f, second-is) (merge-sorts leq o (take (half a) a) (drop (half a) a))
         ∙ ap (sortBy leq) (take-append-drop (half a) a)

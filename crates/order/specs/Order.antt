@@ -1,21 +1,16 @@
--- What is made by an order of items: keys that climb, a merge, an ascending list.
---   climbs             whether each of some items comes before the next
+-- What is made by an order of items: a merge, an ascending list.
 --   Each, Readable     what holds of each element; numbers of items that can be read
 --   mergeBy, leftNext  two lists in one, and whether the left one gives the next element
 --   Ascending          each element comes no later than the next
+--   Joins              a list in two parts, the first of which ascends
 -- Assumes nothing: these are definitions.
-use Prim.Native.Nat.{ℕ, zero, suc}
+use Prim.Native.Nat.{ℕ, _≤_, _<_}
 use mathlib.Core.Path.{_≡_}
-use mathlib.Core.Bool.{Bool, true, false, cond, not, _&&_}
+use mathlib.Core.Bool.{Bool, true, false, cond}
 use mathlib.Core.List.{List, [], _∷_}
+use lib.ListN.{length, take}
 use Rattle.keys.specs.declared.Kind.{Kind}
 use Rattle.keys.specs.Items.{Item}
-
--- of 0, 1, .. below n, each comes before the next: the next does not come as early
-unfoldable pub climbs : (ℕ → ℕ → Bool) → ℕ → Bool
-climbs leq zero = true
-climbs leq (suc zero) = true
-climbs leq (suc (suc n)) = climbs leq (suc n) && not (leq (suc n) n)
 
 unfoldable pub Each : {A : Type 0} → (A → Type 0) → List A → Type 0
 Each P [] = Unit
@@ -39,3 +34,9 @@ unfoldable pub Ascending : {A : Type 0} → (A → A → Bool) → List A → Ty
 Ascending leq [] = Unit
 Ascending leq (x ∷ []) = Unit
 Ascending leq (x ∷ y ∷ ys) = (leq x y ≡ true) × Ascending leq (y ∷ ys)
+
+-- both parts have an element, and the first has m
+pub record Joins {A : Type 0} (leq : A → A → Bool) (m : ℕ) (numbers : List A) : Type 0 where
+  pub some : 1 ≤ m
+  pub others : m < length numbers
+  pub ascends : Ascending leq (take m numbers)

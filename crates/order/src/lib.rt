@@ -1,65 +1,23 @@
-// Many items by their keys: the first whose key stands earlier, and item numbers sorted.
+// Item numbers: counted up, and sorted by the items' keys.
 ghost use mathlib.Core.Path.{_≡_};
 ghost use Prim.Native.Nat.{_+_, _≤_};
 ghost use lib.ListN.{length, take, drop};
-ghost use Rattle.rules.specs.Rules.{firstOver};
-ghost use Rattle.segment.specs.Keys.{freshKey, sortBy};
-ghost use Rattle.keys.specs.Items.{Items, itemKey};
+ghost use Rattle.segment.specs.Keys.{sortBy};
+ghost use Rattle.segment.specs.Meaning.{countFrom};
 ghost use Rattle.keys.specs.Lex.{itemLeq};
-ghost use Rattle.order.specs.Order.{climbs, Readable, leftNext, mergeBy};
+ghost use Rattle.order.specs.Order.{Readable, leftNext, mergeBy, Joins};
 use keys::Kind;
-use rules::Refusal;
-use rules::Verdict;
 
-// Whether each item's key comes before the next one's. Then no key stands twice.
-fn keys_climb(kind: Kind, bytes: &[u8], list: &[u64], n: usize) -> bool
-    requires { ⌜ Items kind (now bytes) (now list) n ⌝ }
-    ensures { λ r. ⌜ r ≡ climbs (itemLeq kind (now (bytes .entry)) (now (list .entry))) n ⌝ }
+// 0, 1, 2 and so on.
+pub fn count_up(numbers: &mut [u16])
+    requires { ⌜ length (now numbers) ≤ 65536 ⌝ }
+    ensures { λ _. ⌜ now (numbers .exit) ≡ countFrom 0 (length (now (numbers .entry))) ⌝ }
 {
-    let mut i = 1;
-    while i < n {
-        if keys::comes_first(kind, bytes, list, i, i - 1) {
-            return false;
-        }
-        i += 1;
+    let mut k = 0;
+    while k < numbers.len() {
+        numbers[k] = k as u16;
+        k += 1;
     }
-    true
-}
-
-// The first of n items whose key stands earlier, if there is one: every pair is looked at.
-fn scan_keys(kind: Kind, bytes: &[u8], list: &[u64], n: usize) -> Verdict
-    requires { ⌜ Items kind (now bytes) (now list) n ⌝ }
-    ensures { λ r. ⌜ r ≡ firstOver n (freshKey (itemKey kind (now (bytes .entry)) (now (list .entry)))) ⌝ }
-{
-    let mut i = 0;
-    let found = 'pairs: loop {
-        if n <= i {
-            break 'pairs n;
-        }
-        let mut j = 0;
-        while j < i {
-            if keys::same_key(kind, bytes, list, i, j) {
-                break 'pairs i;
-            }
-            j += 1;
-        }
-        i += 1;
-    };
-    if found < n {
-        return Verdict::Refused(Refusal::Duplicate(found as u64));
-    }
-    Verdict::Accepted
-}
-
-// The first of n items whose key stands earlier, if there is one. Keys that climb, as in tidy order, are passed over once.
-pub fn check_keys(kind: Kind, bytes: &[u8], list: &[u64], n: usize) -> Verdict
-    requires { ⌜ Items kind (now bytes) (now list) n ⌝ }
-    ensures { λ r. ⌜ r ≡ firstOver n (freshKey (itemKey kind (now (bytes .entry)) (now (list .entry)))) ⌝ }
-{
-    if keys_climb(kind, bytes, list, n) {
-        return Verdict::Accepted;
-    }
-    scan_keys(kind, bytes, list, n)
 }
 
 // Whether a merge that has passed i numbers of a and j of b goes on with one of a. Of equal keys a's is first, so that a sort
@@ -119,8 +77,26 @@ fn copy_front(from: &[u16], to: &mut [u16])
     }
 }
 
+// The first m numbers, which are sorted, and the others, into one list. Where the last of those comes no later than the first of
+// these, all stay where they stand: so numbers in order are sorted by one comparison each.
+fn join(kind: Kind, bytes: &[u8], list: &[u64], numbers: &mut [u16], m: usize, spare: &mut [u16])
+    requires { ⌜ Readable kind (now bytes) (now list) (now numbers) ⌝ }
+    requires { ⌜ Joins (itemLeq kind (now bytes) (now list)) m (now numbers) ⌝ }
+    requires { ⌜ length (now numbers) ≤ length (now spare) ⌝ }
+    ensures { λ _. ⌜ now (numbers .exit) ≡ mergeBy (itemLeq kind (now (bytes .entry)) (now (list .entry))) (take m (now (numbers .entry))) (drop m (now (numbers .entry))) ⌝ }
+{
+    let last = numbers[m - 1] as usize;
+    let next = numbers[m] as usize;
+    if keys::comes_first(kind, bytes, list, last, next) {
+        return;
+    }
+    let halves = &numbers[..];
+    merge(kind, bytes, list, &halves[..m], &halves[m..], spare);
+    copy_front(spare, numbers);
+}
+
 // Sorts item numbers by their items' keys; those of equal keys stay in the order in which they stand. Each half is sorted, and
-// the two are merged in the spare numbers, so that n numbers take n log n steps and log n calls inside each other.
+// the two are joined with the help of the spare numbers, so that n numbers take n log n steps and log n calls inside each other.
 pub fn sort(kind: Kind, bytes: &[u8], list: &[u64], numbers: &mut [u16], spare: &mut [u16])
     requires { ⌜ Readable kind (now bytes) (now list) (now numbers) ⌝ }
     requires { ⌜ length (now numbers) ≤ length (now spare) ⌝ }
@@ -133,7 +109,5 @@ pub fn sort(kind: Kind, bytes: &[u8], list: &[u64], numbers: &mut [u16], spare: 
     let m = n / 2;
     sort(kind, bytes, list, &mut numbers[..m], spare);
     sort(kind, bytes, list, &mut numbers[m..], spare);
-    let halves = &numbers[..];
-    merge(kind, bytes, list, &halves[..m], &halves[m..], spare);
-    copy_front(spare, numbers);
+    join(kind, bytes, list, numbers, m, spare);
 }

@@ -9,8 +9,8 @@ use Rattle.accept.proofs.check_contents.Tie as tie
 readable : tie.Need-check-keys-requires
 readable c κs =
     let at = c .before .before .before in
-    records-stand _ _ _ (at .before .before .before .before .before .pre)
-    (all-passed _ _ _ (at .v .given .0 .0) (sym (at .v .given .1) ∙ at .before .before .check-records .ensures))
+    let laid = at .before .before .before .before .before .pre in
+    (records-stand _ _ _ laid (all-passed _ _ _ (at .v .given .0 .0) (sym (at .v .given .1) ∙ at .before .before .check-records .ensures)), laid .few)
 
 told : tie.Need-returns-3
 told c =

@@ -8,7 +8,7 @@ use Rattle.entries.proofs.check_request.Statement.{statement}
 use Rattle.entries.proofs.check_request.Tie as tie
 
 readable : tie.Need-check-keys-requires
-readable c κs = entries-stand _ _ _ _ _ (entries-book _ _ _ _ _ _ .0 (sym (c .before .before .check-entries .ensures) ∙ c .enum-told .given .1))
+readable c κs = (entries-stand _ _ _ _ _ (entries-book _ _ _ _ _ _ .0 (sym (c .before .before .check-entries .ensures) ∙ c .enum-told .given .1)), omega arith)
 
 pub check-request-spec : {M : Type 1} → statement M
 check-request-spec =

@@ -15,10 +15,10 @@ use Rattle.segment.specs.Keys.{lexLeq, freshKey}
 use Rattle.keys.specs.declared.Kind.{Kind}
 use Rattle.keys.specs.Items.{itemKey}
 use Rattle.keys.specs.Lex.{itemLeq}
-use Rattle.order.specs.Order.{climbs}
+use Rattle.fresh.specs.Falls.{climbs}
 use Rattle.order.proofs.Fresh.{keys-book}
 use Rattle.order.proofs.Lex.{lex-refl, item-order}
 use Rattle.order.proofs.Sorting.{Total}
 
 -- ---- the pass
 

@@ -1,4 +1,4 @@
--- `order::scan_keys` meets its contract: every item passed is new, and the item at hand equals none of those passed in the inner loop.
+-- `fresh::scan_keys` meets its contract: every item known or passed is new, and the item at hand equals none of those passed in the inner loop.
 use Prim.Native.Nat.{_≤_, _-_}
 use mathlib.Core.Path.{_≡_, sym, _∙_}
 use mathlib.Core.Bool.{false}
@@ -7,28 +7,28 @@ use native.Mathlib.Omega.{arith}
 use borrow.Author.Needs.{needs}
 use Rattle.rules.specs.declared.Verdict.the-variants.{Accepted}
 use Rattle.rules.specs.Rules.{firstOver, someBelow}
-use Rattle.rules.proofs.Order.{first-none, first-more, first-refused, none-yet, some-more}
+use Rattle.rules.proofs.Order.{first-more, first-refused, none-yet, some-more}
 use Rattle.segment.specs.Keys.{sameKey, freshKey}
 use Rattle.keys.specs.Items.{itemKey}
 use Rattle.keys.proofs.Equal.{stands-earlier, is-new}
-use Rattle.order.proofs.scan_keys.Statement.{statement}
-use Rattle.order.proofs.scan_keys.Tie as tie
+use Rattle.fresh.proofs.scan_keys.Statement.{statement}
+use Rattle.fresh.proofs.scan_keys.Tie as tie
 
 abbrev Inv-loop : tie.InvT-loop
-Inv-loop kind bytes list n i j₀ j = (j ≤ i) × (someBelow j (sameKey (itemKey kind bytes list) i) ≡ false)
+Inv-loop kind bytes list known n i j₀ j = (j ≤ i) × (someBelow j (sameKey (itemKey kind bytes list) i) ≡ false)
 
 abbrev μ-loop : tie.MeasureT-loop
-μ-loop kind bytes list n i j₀ j = i - j
+μ-loop kind bytes list known n i j₀ j = i - j
 
 abbrev Inv-pairs : tie.InvT-pairs
-Inv-pairs kind bytes list n i₀ i = (i ≤ n) × (firstOver i (freshKey (itemKey kind bytes list)) ≡ Accepted)
+Inv-pairs kind bytes list known n i₀ i = (i ≤ n) × (firstOver i (freshKey (itemKey kind bytes list)) ≡ Accepted)
 
 abbrev μ-pairs : tie.MeasureT-pairs
-μ-pairs kind bytes list n i₀ i = n - i
+μ-pairs kind bytes list known n i₀ i = n - i
 
 can-read : tie.Need-same-key-requires Inv-loop μ-loop Inv-pairs μ-pairs
 can-read c κs =
-    let items = c .before .before .before .before .before .before .pre in
+    let items = c .before .before .before .before .before .before .pre .0 in
     (items .each _ (omega arith), items .each _ (omega arith))
 
 new : tie.Need-pairs-again Inv-loop μ-loop Inv-pairs μ-pairs
@@ -59,7 +59,7 @@ scan-keys-spec =
     μ-loop
     Inv-pairs
     μ-pairs
-    (λ c. (omega arith, first-none _))
+    (λ c. let start = c .before .before in (start .pre .1 .within, start .pre .1 .fresh))
     (λ c. (omega arith, none-yet _))
     can-read
     (λ c. search needs)

@@ -1,11 +1,11 @@
--- `order::keys_climb` meets its contract: i of the items climb.
+-- `fresh::keys_climb` meets its contract: i of the items climb.
 use Prim.Native.Nat.{_-_}
 use mathlib.Core.Path.{sym, _∙_}
 use native.Mathlib.Omega.{arith}
 use Rattle.keys.specs.Lex.{itemLeq}
-use Rattle.order.proofs.Climbing.{Climbing, climbing-start, climbing-more, falls, climbed}
-use Rattle.order.proofs.keys_climb.Statement.{statement}
-use Rattle.order.proofs.keys_climb.Tie as tie
+use Rattle.fresh.proofs.Climbing.{Climbing, climbing-start, climbing-more, falls, climbed}
+use Rattle.fresh.proofs.keys_climb.Statement.{statement}
+use Rattle.fresh.proofs.keys_climb.Tie as tie
 
 abbrev Inv-loop : tie.InvT-loop
 Inv-loop kind bytes list n i₀ i = Climbing (itemLeq kind bytes list) n i

@@ -1,16 +1,16 @@
--- `arrange::count_up` meets its contract: i numbers are counted.
+-- `order::count_up` meets its contract: k numbers are counted.
 use Prim.Native.Nat.{_-_}
 use native.Mathlib.Omega.{arith}
 use lib.ListN.{length}
-use Rattle.arrange.proofs.Sorted.{Counting, counting-start, counting-more, counting-done}
-use Rattle.arrange.proofs.count_up.Statement.{statement}
-use Rattle.arrange.proofs.count_up.Tie as tie
+use Rattle.order.proofs.Counting.{Counting, counting-start, counting-more, counting-done}
+use Rattle.order.proofs.count_up.Statement.{statement}
+use Rattle.order.proofs.count_up.Tie as tie
 
 abbrev Inv-loop : tie.InvT-loop
-Inv-loop out₀ i₀ out i = Counting out₀ i out
+Inv-loop out₀ k₀ out k = Counting out₀ k out
 
 abbrev μ-loop : tie.MeasureT-loop
-μ-loop out₀ i₀ out i = length out₀ - i
+μ-loop out₀ k₀ out k = length out₀ - k
 
 pub count-up-spec : {M : Type 1} → statement M
 count-up-spec =

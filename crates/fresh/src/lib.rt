@@ -1,0 +1,149 @@
+// The first of many items whose key stands earlier, if there is one. A nested scan yields its number. In front of it stands what
+// makes it short: keys that climb have none, and in the sorted order of other keys equal ones stand side by side, which tells how
+// many items at the beginning need no look.
+ghost use mathlib.Core.Path.{_≡_};
+ghost use Prim.Native.Nat.{_≤_, _-_};
+ghost use lib.ListN.{length};
+ghost use Rattle.rules.specs.Rules.{firstOver};
+ghost use Rattle.segment.specs.Keys.{freshKey};
+ghost use Rattle.keys.specs.Items.{Items, itemKey};
+ghost use Rattle.keys.specs.Lex.{itemLeq};
+ghost use Rattle.order.specs.Order.{Readable};
+ghost use Rattle.fresh.specs.Falls.{climbs, lowestFall, sortedFall, Known};
+use keys::Kind;
+use rules::Refusal;
+use rules::Verdict;
+
+// Up to this many items the scan over all pairs is done sooner than a sort.
+const FEW: usize = 40;
+
+// Whether each item's key comes before the next one's. Then no key stands twice.
+fn keys_climb(kind: Kind, bytes: &[u8], list: &[u64], n: usize) -> bool
+    requires { ⌜ Items kind (now bytes) (now list) n ⌝ }
+    ensures { λ r. ⌜ r ≡ climbs (itemLeq kind (now (bytes .entry)) (now (list .entry))) n ⌝ }
+{
+    let mut i = 1;
+    while i < n {
+        if keys::comes_first(kind, bytes, list, i, i - 1) {
+            return false;
+        }
+        i += 1;
+    }
+    true
+}
+
+// The lowest of the numbers whose item comes no later than that of the number before it; if there is none, as many as there are
+// numbers.
+fn lowest_fall(kind: Kind, bytes: &[u8], list: &[u64], numbers: &[u16]) -> usize
+    requires { ⌜ Readable kind (now bytes) (now list) (now numbers) ⌝ }
+    ensures { λ r. ⌜ r ≡ lowestFall (itemLeq kind (now (bytes .entry)) (now (list .entry))) (now (numbers .entry)) (length (now (numbers .entry)) - 1) ⌝ }
+{
+    let mut least = numbers.len();
+    let mut k = 0;
+    while k + 1 < numbers.len() {
+        let before = numbers[k] as usize;
+        k += 1;
+        let x = numbers[k] as usize;
+        if keys::comes_first(kind, bytes, list, x, before) {
+            if x < least {
+                least = x;
+            }
+        }
+    }
+    least
+}
+
+// The lowest fall in the sorted order of as many items as there are numbers.
+fn sorted_fall(
+    kind: Kind,
+    bytes: &[u8],
+    list: &[u64],
+    numbers: &mut [u16],
+    spare: &mut [u16],
+) -> usize
+    requires { ⌜ Items kind (now bytes) (now list) (length (now numbers)) ⌝ }
+    requires { ⌜ length (now numbers) ≤ length (now spare) ⌝ }
+    requires { ⌜ length (now numbers) ≤ 65536 ⌝ }
+    ensures { λ r. ⌜ r ≡ sortedFall (itemLeq kind (now (bytes .entry)) (now (list .entry))) (length (now (numbers .entry))) ⌝ }
+{
+    order::count_up(numbers);
+    order::sort(kind, bytes, list, numbers, spare);
+    lowest_fall(kind, bytes, list, numbers)
+}
+
+// With numbers for 256 items.
+fn fall_of_few(kind: Kind, bytes: &[u8], list: &[u64], n: usize) -> usize
+    requires { ⌜ Items kind (now bytes) (now list) n ⌝ }
+    requires { ⌜ n ≤ 256 ⌝ }
+    ensures { λ r. ⌜ r ≡ sortedFall (itemLeq kind (now (bytes .entry)) (now (list .entry))) n ⌝ }
+{
+    let mut numbers = [0u16; 256];
+    let mut spare = [0u16; 256];
+    sorted_fall(kind, bytes, list, &mut numbers[..n], &mut spare[..])
+}
+
+// With numbers for as many items as a segment can have.
+fn fall_of_many(kind: Kind, bytes: &[u8], list: &[u64], n: usize) -> usize
+    requires { ⌜ Items kind (now bytes) (now list) n ⌝ }
+    requires { ⌜ n ≤ 65536 ⌝ }
+    ensures { λ r. ⌜ r ≡ sortedFall (itemLeq kind (now (bytes .entry)) (now (list .entry))) n ⌝ }
+{
+    let mut numbers = [0u16; 65536];
+    let mut spare = [0u16; 65536];
+    sorted_fall(kind, bytes, list, &mut numbers[..n], &mut spare[..])
+}
+
+// How many items at the beginning are known to have keys that stand nowhere earlier, by the sorted order of all.
+fn known_fresh(kind: Kind, bytes: &[u8], list: &[u64], n: usize) -> usize
+    requires { ⌜ Items kind (now bytes) (now list) n ⌝ }
+    requires { ⌜ n ≤ 65536 ⌝ }
+    ensures { λ r. ⌜ r ≡ sortedFall (itemLeq kind (now (bytes .entry)) (now (list .entry))) n ⌝ }
+{
+    if n <= 256 {
+        return fall_of_few(kind, bytes, list, n);
+    }
+    fall_of_many(kind, bytes, list, n)
+}
+
+// The first of n items whose key stands earlier, if there is one: each item after those that are known to be new is compared with
+// every one before it.
+fn scan_keys(kind: Kind, bytes: &[u8], list: &[u64], known: usize, n: usize) -> Verdict
+    requires { ⌜ Items kind (now bytes) (now list) n ⌝ }
+    requires { ⌜ Known (itemKey kind (now bytes) (now list)) known n ⌝ }
+    ensures { λ r. ⌜ r ≡ firstOver n (freshKey (itemKey kind (now (bytes .entry)) (now (list .entry)))) ⌝ }
+{
+    let mut i = known;
+    let found = 'pairs: loop {
+        if n <= i {
+            break 'pairs n;
+        }
+        let mut j = 0;
+        while j < i {
+            if keys::same_key(kind, bytes, list, i, j) {
+                break 'pairs i;
+            }
+            j += 1;
+        }
+        i += 1;
+    };
+    if found < n {
+        return Verdict::Refused(Refusal::Duplicate(found as u64));
+    }
+    Verdict::Accepted
+}
+
+// The first of n items whose key stands earlier, if there is one. Keys that climb, as in tidy order, are passed over once.
+pub fn check_keys(kind: Kind, bytes: &[u8], list: &[u64], n: usize) -> Verdict
+    requires { ⌜ Items kind (now bytes) (now list) n ⌝ }
+    requires { ⌜ n ≤ 65536 ⌝ }
+    ensures { λ r. ⌜ r ≡ firstOver n (freshKey (itemKey kind (now (bytes .entry)) (now (list .entry)))) ⌝ }
+{
+    if keys_climb(kind, bytes, list, n) {
+        return Verdict::Accepted;
+    }
+    if n <= FEW {
+        return scan_keys(kind, bytes, list, 0, n);
+    }
+    let known = known_fresh(kind, bytes, list, n);
+    scan_keys(kind, bytes, list, known, n)
+}
