@@ -365,9 +365,9 @@ def systematic_cases(rng):
     yield from combined.combined_cases(rng)
 
 
-def all_cases(rng, count, long_run):
+def all_cases(rng, count):
     """Systematic cases, large ones, `count` random ones and some listings."""
     yield from systematic_cases(rng)
-    yield from large.large_cases(rng, long_run)
+    yield from large.large_cases(rng)
     yield from random_cases(rng, count)
     yield from listing_cases(rng, max(count // 50, 20))

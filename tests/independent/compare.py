@@ -1,8 +1,8 @@
 """Compares a program's answers with asl.py's, case by case: number, place, values and every byte
 of every output.
 
-    compare.py [--cases N] [--seed S] [--long] [--listing COMMAND] DRIVER-COMMAND...
-    compare.py [--cases N] [--seed S] [--long] --self
+    compare.py [--cases N] [--seed S] [--listing COMMAND] DRIVER-COMMAND...
+    compare.py [--cases N] [--seed S] --self
     compare.py [--cases N] [--seed S] --wrong NAME
 
 N is the number of random cases; they come besides the systematic ones. --self asks asl.py in
@@ -128,9 +128,9 @@ class Tally:
 
 # The run --------------------------------------------------------------------------------------
 
-def compare_all(ask, seed, count, long_run, with_listing, tally):
+def compare_all(ask, seed, count, with_listing, tally):
     rng = random.Random(seed)
-    cases = (case for source in (fixtures.cases(), all_cases(rng, count, long_run))
+    cases = (case for source in (fixtures.cases(), all_cases(rng, count))
              for case in source if with_listing or case.kind != "list")
     for batch in batches(cases):
         tally.compare(batch, [answer_of(case) for case in batch], ask(batch))
@@ -147,7 +147,6 @@ def parse(argv):
                                      formatter_class=argparse.RawDescriptionHelpFormatter)
     parser.add_argument("--cases", type=int, default=10_000)
     parser.add_argument("--seed", type=int, default=None)
-    parser.add_argument("--long", action="store_true")
     parser.add_argument("--listing", default=None)
     parser.add_argument("--self", dest="itself", action="store_true")
     parser.add_argument("--wrong", choices=sorted(wrong.PROGRAMS))
@@ -168,7 +167,7 @@ def main(argv):
     if not with_listing:
         print("no listing program was given: the listing is not compared")
     tally, began = Tally(), time.monotonic()
-    tried = compare_all(ask, seed, args.cases, args.long, with_listing, tally)
+    tried = compare_all(ask, seed, args.cases, with_listing, tally)
     tally.end(driver)
     tally.print_counts()
     seconds = time.monotonic() - began

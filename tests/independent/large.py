@@ -113,7 +113,7 @@ def key_again_cases(order):
     yield write_gone(name, again)
 
 
-def large_cases(rng, long_run):
+def large_cases(rng):
     yield from count_cases()
     yield from size_cases(rng)
     yield from many_cases(rng, "65,536 records in order", range(MOST))
