@@ -25,7 +25,7 @@ use Rattle.find.proofs.Finding.{table-bad as look-up-bad}
 use Rattle.tidy.proofs.Reading.{table-bad as tidy-bad}
 use Rattle.seal.proofs.Asking.{table-bad as write-bad}
 use Rattle.asl.specs.declared.boundary.Reply.{Reply}
-use Rattle.asl.specs.Boundary.{tableIn, told, replyOf, lookedUpBy, replyLeft, lengthAfter, sealedBy, sealedAs}
+use Rattle.asl.specs.Boundary.{tableIn, told, replyOf, lookedUpBy, replyLeft, sizeAfter, sealedBy, sealedAs}
 use Rattle.asl.proofs.Tables.{Lent, alike-said}
 
 module _ (bytes : List ℕ) (t : Table) (l : Lent bytes t) where
@@ -57,18 +57,18 @@ module _ (bytes : List ℕ) (t : Table) (l : Lent bytes t) where
 
   -- tidy and write
   sealed : (w : Written) (o : Outcome) (before : ℕ) {n p m : ℕ} {after : List ℕ} → outcome w after ≡ o
-      → (n ≡ writtenAnswer w .number) × (p ≡ writtenAnswer w .place) × (m ≡ lengthAfter (writtenAnswer w .values) before) → sealedBy n p m after ≡ sealedAs o before
+      → (n ≡ writtenAnswer w .number) × (p ≡ writtenAnswer w .place) × (m ≡ sizeAfter (writtenAnswer w .values) before) → sealedBy n p m after ≡ sealedAs o before
   unfolding sealedAs
   sealed w o before e f = rw (f .0, f .1, f .2) (ap (λ (q : Outcome). sealedAs q before) e)
 
   pub tidied : (s out : List ℕ) (w : Written) (before : ℕ) {n p m : ℕ} {after : List ℕ} → outcome w after ≡ tidyOf part s out
-      → (n ≡ writtenAnswer w .number) × (p ≡ writtenAnswer w .place) × (m ≡ lengthAfter (writtenAnswer w .values) before)
+      → (n ≡ writtenAnswer w .number) × (p ≡ writtenAnswer w .place) × (m ≡ sizeAfter (writtenAnswer w .values) before)
       → sealedBy n p m after ≡ sealedAs (tidyOf (tableIn bytes) s out) before
   tidied s out w before e f =
       sealed w (tidyOf (tableIn bytes) s out) before (e ∙ alike-said (λ p. tidyOf p s out) (outcome (NotWritten TableWrong) out) (λ p. tidy-bad p s out) l) f
 
   pub written : (q : Request) (out : List ℕ) (w : Written) (before : ℕ) {n p m : ℕ} {after : List ℕ} → outcome w after ≡ writeOf part q out
-      → (n ≡ writtenAnswer w .number) × (p ≡ writtenAnswer w .place) × (m ≡ lengthAfter (writtenAnswer w .values) before)
+      → (n ≡ writtenAnswer w .number) × (p ≡ writtenAnswer w .place) × (m ≡ sizeAfter (writtenAnswer w .values) before)
       → sealedBy n p m after ≡ sealedAs (writeOf (tableIn bytes) q out) before
   written q out w before e f =
       sealed w (writeOf (tableIn bytes) q out) before (e ∙ alike-said (λ p. writeOf p q out) (outcome (NotWritten TableWrong) out) (λ p. write-bad p q out) l) f

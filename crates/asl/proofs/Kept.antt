@@ -1,5 +1,5 @@
 -- A refused call of an entry point changes nothing but the place; and what a promise says settles every number and byte.
---   look-up-keeps, tidy-keeps, write-keeps         the lent numbers, the length and the output stay
+--   look-up-keeps, tidy-keeps, write-keeps         the lent numbers, the size and the output stay
 --   one-told, one-looked-up, one-sealed            two answers that one promise allows are equal
 -- Assumes nothing.
 use Prim.Native.Nat.{ℕ}
@@ -25,18 +25,18 @@ look-up-keeps a found refused =
 
 -- what write and tidy leave of an answer: a form in front of the output, or nothing
 written-keeps : (w : Written) (form out : List ℕ) (before : ℕ) → (sealedAs (outcome w (outputAfter w form out)) before .number ≡ 0 → ⊥)
-    → (sealedAs (outcome w (outputAfter w form out)) before .length ≡ before) × (sealedAs (outcome w (outputAfter w form out)) before .output ≡ out)
+    → (sealedAs (outcome w (outputAfter w form out)) before .size ≡ before) × (sealedAs (outcome w (outputAfter w form out)) before .output ≡ out)
 unfolding sealedAs
 written-keeps (Done n) form out before refused = absurd (refused refl)
 written-keeps (Refused r) form out before refused = (refl, refl)
 
 pub tidy-keeps : (pairs s out : List ℕ) (before : ℕ) → (sealedAs (tidyOf pairs s out) before .number ≡ 0 → ⊥)
-    → (sealedAs (tidyOf pairs s out) before .length ≡ before) × (sealedAs (tidyOf pairs s out) before .output ≡ out)
+    → (sealedAs (tidyOf pairs s out) before .size ≡ before) × (sealedAs (tidyOf pairs s out) before .output ≡ out)
 unfolding tidyOf
 tidy-keeps pairs s out before = written-keeps (tidied pairs s (length out)) _ out before
 
 pub write-keeps : (pairs : List ℕ) (q : Request) (out : List ℕ) (before : ℕ) → (sealedAs (writeOf pairs q out) before .number ≡ 0 → ⊥)
-    → (sealedAs (writeOf pairs q out) before .length ≡ before) × (sealedAs (writeOf pairs q out) before .output ≡ out)
+    → (sealedAs (writeOf pairs q out) before .size ≡ before) × (sealedAs (writeOf pairs q out) before .output ≡ out)
 unfolding writeOf
 write-keeps pairs q out before = written-keeps (wrote pairs q (length out)) _ out before
 
@@ -53,4 +53,4 @@ pub one-sealed : {n n′ p p′ m m′ : ℕ} {xs xs′ : List ℕ} {a : Sealed}
     → (n ≡ n′) × (p ≡ p′) × (m ≡ m′) × (xs ≡ xs′)
 one-sealed e f =
     let same = e ∙ sym f in
-    (ap (λ (a : Sealed). a .number) same, ap (λ (a : Sealed). a .place) same, ap (λ (a : Sealed). a .length) same, ap (λ (a : Sealed). a .output) same)
+    (ap (λ (a : Sealed). a .number) same, ap (λ (a : Sealed). a .place) same, ap (λ (a : Sealed). a .size) same, ap (λ (a : Sealed). a .output) same)

@@ -18,7 +18,7 @@ use Rattle.rules.specs.Answers.{numberOf, placeOf, writtenAnswer}
 use Rattle.rules.proofs.Order.{tests}
 use Rattle.sections.proofs.Runs.{Copying, copying-more}
 use Rattle.asl.specs.declared.boundary.Reply.{Reply}
-use Rattle.asl.specs.Boundary.{replied, replyOf, lookedUpBy, replyLeft, lengthAfter}
+use Rattle.asl.specs.Boundary.{replied, replyOf, lookedUpBy, replyLeft, sizeAfter}
 
 module _ (state v d : ℕ) (o : Source) (t at n : ℕ) where
   pub of-none : o ≡ None → record { number = 0; place = 0; values = state ∷ v ∷ d ∷ 0 ∷ 0 ∷ t ∷ at ∷ n ∷ [] } ≡ replied state v d o t at n
@@ -61,7 +61,7 @@ reply-long (Refused r) e = ap (λ (a : Reply). length (a .values)) e
 
 -- a refused write or tidy, which leaves the length
 pub not-written : (w : Written) {x : Refusal} {n p l m : ℕ} → w ≡ NotWritten x → n ≡ numberOf x → p ≡ placeOf x → l ≡ m
-    → (n ≡ writtenAnswer w .number) × (p ≡ writtenAnswer w .place) × (l ≡ lengthAfter (writtenAnswer w .values) m)
+    → (n ≡ writtenAnswer w .number) × (p ≡ writtenAnswer w .place) × (l ≡ sizeAfter (writtenAnswer w .values) m)
 not-written w e g h i = rw e (g, h, i)
 
 -- one number more at the front of the lent ones

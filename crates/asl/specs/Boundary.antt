@@ -3,7 +3,7 @@
 --   tableCopied    the same by value
 --   told           check: the number returned and the place left, as document 01's answer
 --   LookedUp       look up: the number returned, the place left and the numbers left
---   Sealed         write and tidy: the number returned, the place and the length left, and every byte of the output
+--   Sealed         write and tidy: the number returned, the place and the result's size left, and every byte of the output
 -- Assumes nothing: these are definitions.
 use Prim.Native.Nat.{ℕ, _-_, _*_, _/_, _%_}
 use mathlib.Core.Bool.{Bool, cond, _&&_}
@@ -96,16 +96,16 @@ headed shard snapshotMin snapshotMax domain sealSnapshot sealTime = record {
 pub record Sealed : Type 0 where
   pub number : ℕ
   pub place : ℕ
-  pub length : ℕ
+  pub size : ℕ
   pub output : List ℕ
 
 abbrev pub sealedBy : ℕ → ℕ → ℕ → List ℕ → Sealed
-sealedBy number place length output = record { number = number; place = place; length = length; output = output }
+sealedBy number place size output = record { number = number; place = place; size = size; output = output }
 
--- the result's length, or, where there is no result, the length that stood there
-abbrev pub lengthAfter : List ℕ → ℕ → ℕ
-lengthAfter [] before = before
-lengthAfter (n ∷ ns) before = n
+-- the result's size, or, where there is no result, the size that stood there
+abbrev pub sizeAfter : List ℕ → ℕ → ℕ
+sizeAfter [] before = before
+sizeAfter (n ∷ ns) before = n
 
 unfoldable pub sealedAs : Outcome → ℕ → Sealed
-sealedAs o before = sealedBy (o .answer .number) (o .answer .place) (lengthAfter (o .answer .values) before) (o .output)
+sealedAs o before = sealedBy (o .answer .number) (o .answer .place) (sizeAfter (o .answer .values) before) (o .output)

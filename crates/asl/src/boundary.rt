@@ -5,7 +5,7 @@ ghost use Prim.Native.Nat.{_-_, _/_, _%_, _≤_};
 ghost use lib.ListN.{length, replicate};
 ghost use Rattle.numbers.specs.Numbers.{put};
 ghost use Rattle.rules.specs.Answers.{numberOf, placeOf, writtenAnswer};
-ghost use Rattle.asl.specs.Boundary.{tableIn, tableCopied, replied, replyOf, lookedUpBy, replyLeft, lengthAfter};
+ghost use Rattle.asl.specs.Boundary.{tableIn, tableCopied, replied, replyOf, lookedUpBy, replyLeft, sizeAfter};
 use rules::Found;
 use rules::Refusal;
 use rules::Source;
@@ -67,14 +67,14 @@ pub fn refuse(r: Refusal, place: &mut u64) -> u64
     rules::number(r)
 }
 
-// Says what write and tidy answered. The length stays where there is no result.
-pub fn settle(w: Written, length: &mut u64, place: &mut u64) -> u64
+// Says what write and tidy answered. The size stays where there is no result.
+pub fn settle(w: Written, size: &mut u64, place: &mut u64) -> u64
     ensures { λ n. ⌜ (n ≡ writtenAnswer w .number) × (now (place .exit) ≡ writtenAnswer w .place)
-        × (now (length .exit) ≡ lengthAfter (writtenAnswer w .values) (now (length .entry))) ⌝ }
+        × (now (size .exit) ≡ sizeAfter (writtenAnswer w .values) (now (size .entry))) ⌝ }
 {
     match w {
         Written::Done(n) => {
-            *length = n;
+            *size = n;
             *place = 0;
             0
         }

@@ -51,16 +51,16 @@ pub extern "C" fn asl_tidy(
     table: &[u8],
     segment: &[u8],
     out: &mut [u8],
-    length: &mut u64,
+    size: &mut u64,
     place: &mut u64,
 ) -> u64
-    ensures { λ r. ⌜ sealedBy r (now (place .exit)) (now (length .exit)) (now (out .exit)) ≡ sealedAs (tidyOf (tableIn (now (table .entry))) (now (segment .entry)) (now (out .entry))) (now (length .entry)) ⌝ }
+    ensures { λ r. ⌜ sealedBy r (now (place .exit)) (now (size .exit)) (now (out .exit)) ≡ sealedAs (tidyOf (tableIn (now (table .entry))) (now (segment .entry)) (now (out .entry))) (now (size .entry)) ⌝ }
 {
     let t = boundary::table_in(table);
     let numbers = t.numbers;
     let count = t.count;
     let answer = tidy::tidy(&numbers[..count], segment, out);
-    boundary::settle(answer, length, place)
+    boundary::settle(answer, size, place)
 }
 
 #[no_mangle]
@@ -77,10 +77,10 @@ pub extern "C" fn asl_write(
     digests: &[u8],
     extents: &[u64],
     out: &mut [u8],
-    length: &mut u64,
+    size: &mut u64,
     place: &mut u64,
 ) -> u64
-    ensures { λ r. ⌜ sealedBy r (now (place .exit)) (now (length .exit)) (now (out .exit)) ≡ sealedAs (writeOf (tableIn (now (table .entry))) (asked (headed shard «snapshot_min» «snapshot_max» domain «seal_snapshot» «seal_time») (now (bloom .entry)) (now (entries .entry)) (now (digests .entry)) (now (extents .entry))) (now (out .entry))) (now (length .entry)) ⌝ }
+    ensures { λ r. ⌜ sealedBy r (now (place .exit)) (now (size .exit)) (now (out .exit)) ≡ sealedAs (writeOf (tableIn (now (table .entry))) (asked (headed shard «snapshot_min» «snapshot_max» domain «seal_snapshot» «seal_time») (now (bloom .entry)) (now (entries .entry)) (now (digests .entry)) (now (extents .entry))) (now (out .entry))) (now (size .entry)) ⌝ }
 {
     let t = boundary::table_in(table);
     let numbers = t.numbers;
@@ -102,5 +102,5 @@ pub extern "C" fn asl_write(
         extents,
         out,
     );
-    boundary::settle(answer, length, place)
+    boundary::settle(answer, size, place)
 }
