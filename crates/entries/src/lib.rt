@@ -74,5 +74,8 @@ pub fn check_request(
         }
         Verdict::Accepted => {}
     }
+    if fresh::keys_climb(Kind::Entries, digests, entries, n) {
+        return Verdict::Accepted;
+    }
     fresh::check_keys(Kind::Entries, digests, entries, n)
 }

@@ -1,6 +1,9 @@
 // The first of many items whose key stands earlier, if there is one. A nested scan yields its number. In front of it stands what
 // makes it short: keys that climb have none, and in the sorted order of other keys equal ones stand side by side, which tells how
 // many items at the beginning need no look.
+//
+// A caller asks `keys_climb` first and `check_keys` only if they do not. These are two functions because `check_keys` has large
+// arrays on its stack, which the compiler reserves when it is entered; keys in tidy order do not wait for that.
 ghost use mathlib.Core.Path.{_≡_};
 ghost use Prim.Native.Nat.{_≤_, _-_};
 ghost use lib.ListN.{length};
@@ -18,7 +21,7 @@ use rules::Verdict;
 const FEW: usize = 40;
 
 // Whether each item's key comes before the next one's. Then no key stands twice.
-fn keys_climb(kind: Kind, bytes: &[u8], list: &[u64], n: usize) -> bool
+pub fn keys_climb(kind: Kind, bytes: &[u8], list: &[u64], n: usize) -> bool
     requires { ⌜ Items kind (now bytes) (now list) n ⌝ }
     ensures { λ r. ⌜ r ≡ climbs (itemLeq kind (now (bytes .entry)) (now (list .entry))) n ⌝ }
 {
@@ -132,15 +135,12 @@ fn scan_keys(kind: Kind, bytes: &[u8], list: &[u64], known: usize, n: usize) -> 
     Verdict::Accepted
 }
 
-// The first of n items whose key stands earlier, if there is one. Keys that climb, as in tidy order, are passed over once.
+// The first of n items whose key stands earlier, if there is one.
 pub fn check_keys(kind: Kind, bytes: &[u8], list: &[u64], n: usize) -> Verdict
     requires { ⌜ Items kind (now bytes) (now list) n ⌝ }
     requires { ⌜ n ≤ 65536 ⌝ }
     ensures { λ r. ⌜ r ≡ firstOver n (freshKey (itemKey kind (now (bytes .entry)) (now (list .entry)))) ⌝ }
 {
-    if keys_climb(kind, bytes, list, n) {
-        return Verdict::Accepted;
-    }
     if n <= FEW {
         return scan_keys(kind, bytes, list, 0, n);
     }

@@ -2,13 +2,30 @@
 use mathlib.Core.Path.{sym, _∙_}
 use borrow.Author.Needs.{needs}
 use native.Mathlib.Omega.{arith}
+use Rattle.fresh.proofs.Climbing.{none-twice}
 use Rattle.entries.proofs.Books.{entries-book, entries-stand}
 use Rattle.entries.proofs.Whole.{too-many, bloom-odd, entries-stop, keys-told}
 use Rattle.entries.proofs.check_request.Statement.{statement}
 use Rattle.entries.proofs.check_request.Tie as tie
 
+asked : tie.Need-keys-climb-requires
+asked c κs = entries-stand _ _ _ _ _ (entries-book _ _ _ _ _ _ .0 (sym (c .before .before .check-entries .ensures) ∙ c .enum-told .given .1))
+
+climbing : tie.Need-returns-4
+climbing c =
+    let at = c .before .before in
+    let new = sym (none-twice _ _ _ _ (sym (c .before .keys-climb .ensures) ∙ c .if3 .taken)) in
+    keys-told _ _ _ _ _ (omega arith) (omega arith) (sym (at .before .before .check-entries .ensures) ∙ at .enum-told .given .1) new
+
 readable : tie.Need-check-keys-requires
-readable c κs = (entries-stand _ _ _ _ _ (entries-book _ _ _ _ _ _ .0 (sym (c .before .before .check-entries .ensures) ∙ c .enum-told .given .1)), omega arith)
+readable c κs =
+    let at = c .before .before in
+    (entries-stand _ _ _ _ _ (entries-book _ _ _ _ _ _ .0 (sym (at .before .before .check-entries .ensures) ∙ at .enum-told .given .1)), omega arith)
+
+told : tie.Need-returns-5
+told c =
+    let at = c .before .before .before in
+    keys-told _ _ _ _ _ (omega arith) (omega arith) (sym (at .before .before .check-entries .ensures) ∙ at .enum-told .given .1) (c .check-keys .ensures)
 
 pub check-request-spec : {M : Type 1} → statement M
 check-request-spec =
@@ -20,5 +37,7 @@ check-request-spec =
     (λ c. search needs)
     (λ c. entries-stop _ _ _ _ _ (omega arith) (omega arith) _ (sym (c .before .before .before .check-entries .ensures) ∙ c .before .x .given .1))
     (λ c. search needs)
+    asked
+    climbing
     readable
-    (λ c. keys-told _ _ _ _ _ (omega arith) (omega arith) (sym (c .before .before .before .check-entries .ensures) ∙ c .before .enum-told .given .1) (c .check-keys .ensures)))
+    told)

@@ -1,7 +1,5 @@
--- `fresh::check_keys` meets its contract: keys that climb are all new; else the scan tells, after those that are known to be.
-use mathlib.Core.Path.{sym, _∙_}
+-- `fresh::check_keys` meets its contract: the scan tells, after those that are known to be new.
 use borrow.Author.Needs.{needs}
-use Rattle.fresh.proofs.Climbing.{none-twice}
 use Rattle.fresh.proofs.Falling.{known-none, known-by-order}
 use Rattle.fresh.proofs.check_keys.Statement.{statement}
 use Rattle.fresh.proofs.check_keys.Tie as tie
@@ -10,10 +8,8 @@ pub check-keys-spec : {M : Type 1} → statement M
 check-keys-spec =
     tie.close
     (tie.spec
-    (λ c κs. search needs)
-    (λ c. sym (none-twice _ _ _ _ (sym (c .before .keys-climb .ensures) ∙ c .if1 .taken)))
     (λ c κs. (search needs, known-none _ _))
     (λ c. search needs)
     (λ c κs. search needs)
-    (λ c κs. let start = c .before .before .before .before .before .before in let a = start .args in (start .pre .0, known-by-order (a .kind) (a .bytes .now) (a .list .now) _ _ (c .known-fresh .ensures)))
+    (λ c κs. let start = c .before .before .before .before in let a = start .args in (start .pre .0, known-by-order (a .kind) (a .bytes .now) (a .list .now) _ _ (c .known-fresh .ensures)))
     (λ c. search needs))
