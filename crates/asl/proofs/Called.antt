@@ -24,9 +24,9 @@ use Rattle.accept.proofs.Whole.{table-bad as check-bad}
 use Rattle.find.proofs.Finding.{table-bad as look-up-bad}
 use Rattle.tidy.proofs.Reading.{table-bad as tidy-bad}
 use Rattle.seal.proofs.Asking.{table-bad as write-bad}
-use Rattle.asl.specs.declared.boundary.Reply.{Reply}
-use Rattle.asl.specs.Boundary.{tableIn, told, replyOf, lookedUpBy, replyLeft, sizeAfter, sealedBy, sealedAs}
-use Rattle.asl.proofs.Tables.{Lent, alike-said}
+use Rattle.boundary.specs.declared.Reply.{Reply}
+use Rattle.boundary.specs.Boundary.{tableIn, told, replyOf, lookedUpBy, replyLeft, sizeAfter, sealedBy, sealedAs}
+use Rattle.boundary.proofs.Tables.{Lent, alike-said}
 
 module _ (bytes : List ℕ) (t : Table) (l : Lent bytes t) where
   abbrev part : List ℕ

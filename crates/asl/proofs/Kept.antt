@@ -13,8 +13,8 @@ use Rattle.rules.specs.Answers.{Answer}
 use Rattle.rules.proofs.Order.{tests, by-test}
 use Rattle.segment.specs.Tidy.{Outcome, outcome, outputAfter, tidied, tidyOf, tidyForm}
 use Rattle.segment.specs.Write.{Request, wrote, writeOf}
-use Rattle.asl.specs.declared.boundary.Reply.{Reply}
-use Rattle.asl.specs.Boundary.{told, LookedUp, lookedUpBy, replyLeft, Sealed, sealedBy, sealedAs}
+use Rattle.boundary.specs.declared.Reply.{Reply}
+use Rattle.boundary.specs.Boundary.{told, LookedUp, lookedUpBy, replyLeft, Sealed, sealedBy, sealedAs}
 
 pub look-up-keeps : (a : Reply) (found : List ℕ) → (replyLeft a found .number ≡ 0 → ⊥) → replyLeft a found .found ≡ found
 unfolding replyLeft

@@ -1,4 +1,2 @@
-pub mod Tables
-pub mod Replies
 pub mod Called
 pub mod Kept

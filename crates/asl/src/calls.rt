@@ -6,8 +6,7 @@ ghost use Rattle.segment.specs.LookUp.{lookedUp};
 ghost use Rattle.segment.specs.Tidy.{tidyOf};
 ghost use Rattle.segment.specs.Write.{writeOf};
 ghost use Rattle.seal.specs.Seal.{asked};
-ghost use Rattle.asl.specs.Boundary.{tableIn, told, replyOf, lookedUpBy, replyLeft, headed, sealedBy, sealedAs};
-use crate::boundary;
+ghost use Rattle.boundary.specs.Boundary.{tableIn, told, replyOf, lookedUpBy, replyLeft, headed, sealedBy, sealedAs};
 use rules::Verdict;
 use segment::header::Heading;
 

@@ -1,6 +1,5 @@
 // The library. Its interface for Rattle, gathered here: check, look up, write, tidy, the walk, and what they take and answer; and
 // the entry points for C, in `calls`.
-mod boundary;
 pub mod calls;
 
 pub use accept::check;

@@ -2,8 +2,8 @@
 use mathlib.Core.Path.{sym}
 use borrow.Author.Needs.{needs}
 use lib.Seq.{length-take-le}
-use Rattle.asl.proofs.Tables.{Lent, lent}
-use Rattle.asl.proofs.Replies.{reply-long}
+use Rattle.boundary.proofs.Tables.{Lent, lent}
+use Rattle.boundary.proofs.Replies.{reply-long}
 use Rattle.asl.proofs.Called.{looked-up}
 use Rattle.asl.proofs.calls.asl_look_up.Statement.{statement}
 use Rattle.asl.proofs.calls.asl_look_up.Tie as tie

@@ -1,0 +1,85 @@
+-- Look up's answer in numbers, case by case.
+-- Assumes nothing.
+use Prim.Native.Nat.{ℕ, _+_, _≤_, _<_}
+use mathlib.Core.Path.{_≡_, refl, ap, _∙_}
+use mathlib.Core.List.{List, [], _∷_}
+use native.Mathlib.Omega.{arith}
+use lib.ListN.{length, getD, set, replicate}
+use Rattle.numbers.specs.Numbers.{put}
+use Rattle.rules.specs.declared.Refusal.the-variants.{Room}
+use Rattle.rules.specs.declared.Refusal.{Refusal}
+use Rattle.rules.specs.declared.Source.{Source}
+use Rattle.rules.specs.declared.Source.the-variants.{None, Domain}
+use Rattle.rules.specs.declared.Found.{Found}
+use Rattle.rules.specs.declared.Found.the-variants.{Absent, Gone, Present, Refused}
+use Rattle.rules.specs.declared.Written.{Written}
+use Rattle.rules.specs.declared.Written.the-variants.{Refused as NotWritten}
+use Rattle.rules.specs.Answers.{numberOf, placeOf, writtenAnswer}
+use Rattle.rules.proofs.Order.{tests}
+use Rattle.sections.proofs.Runs.{Copying, copying-more}
+use Rattle.boundary.specs.declared.Reply.{Reply}
+use Rattle.boundary.specs.Boundary.{replied, replyOf, lookedUpBy, replyLeft, sizeAfter}
+
+module _ (state v d : ℕ) (o : Source) (t at n : ℕ) where
+  pub of-none : o ≡ None → record { number = 0; place = 0; values = state ∷ v ∷ d ∷ 0 ∷ 0 ∷ t ∷ at ∷ n ∷ [] } ≡ replied state v d o t at n
+  unfolding replied
+  of-none e = rw e
+
+  pub of-domain : (x : ℕ) → o ≡ Domain x → record { number = 0; place = 0; values = state ∷ v ∷ d ∷ 1 ∷ x ∷ t ∷ at ∷ n ∷ [] } ≡ replied state v d o t at n
+  unfolding replied
+  of-domain x e = rw e
+
+module _ (f : Found) where
+  pub reply-absent : f ≡ Absent → record { number = 0; place = 0; values = replicate 8 0 } ≡ replyOf f
+  unfolding replyOf
+  reply-absent e = rw e
+
+  pub reply-gone : {v d : ℕ} {o : Source} {r : Reply} → f ≡ Gone v d o → r ≡ replied 1 v d o 0 0 0 → r ≡ replyOf f
+  unfolding replyOf
+  reply-gone e g = rw e g
+
+  pub reply-present : {v d : ℕ} {o : Source} {t at n : ℕ} {r : Reply} → f ≡ Present v d o t at n → r ≡ replied 2 v d o t at n → r ≡ replyOf f
+  unfolding replyOf
+  reply-present e g = rw e g
+
+  pub reply-refused : {x : Refusal} {n p : ℕ} → f ≡ Refused x → n ≡ numberOf x → p ≡ placeOf x
+      → record { number = n; place = p; values = replicate 8 0 } ≡ replyOf f
+  unfolding replyOf
+  reply-refused e g h = rw e (rw (g, h))
+
+values-long : (state v d : ℕ) (o : Source) (t at n : ℕ) → length (replied state v d o t at n .values) ≡ 8
+unfolding replied
+values-long state v d None t at n = refl
+values-long state v d (Domain x) t at n = refl
+
+pub reply-long : {r : Reply} (f : Found) → r ≡ replyOf f → length (r .values) ≡ 8
+unfolding replyOf
+reply-long Absent e = ap (λ (a : Reply). length (a .values)) e
+reply-long (Gone v d o) e = ap (λ (a : Reply). length (a .values)) e ∙ values-long 1 v d o 0 0 0
+reply-long (Present v d o t at n) e = ap (λ (a : Reply). length (a .values)) e ∙ values-long 2 v d o t at n
+reply-long (Refused r) e = ap (λ (a : Reply). length (a .values)) e
+
+-- a refused write or tidy, which leaves the length
+pub not-written : (w : Written) {x : Refusal} {n p l m : ℕ} → w ≡ NotWritten x → n ≡ numberOf x → p ≡ placeOf x → l ≡ m
+    → (n ≡ writtenAnswer w .number) × (p ≡ writtenAnswer w .place) × (l ≡ sizeAfter (writtenAnswer w .values) m)
+not-written w e g h i = rw e (g, h, i)
+
+-- one number more at the front of the lent ones
+pub front-more : (values found₀ : List ℕ) (i : ℕ) (found : List ℕ) → Copying values found₀ 0 i found → i < length values → length values ≤ length found₀
+    → Copying values found₀ 0 (i + 1) (set found i (getD values i 0))
+front-more values found₀ i found c h r = let n : 0 + i ≡ i = omega arith in rw n at (copying-more values found₀ 0 i found c h (omega arith))
+
+-- a reply that is left in the lent numbers
+module _ (a : Reply) (found : List ℕ) where
+  pub left-refused : 0 < a .number → lookedUpBy (a .number) (a .place) found ≡ replyLeft a found
+  unfolding replyLeft
+  left-refused h = let n : a .number ≡ 0 → ⊥ = λ e. omega arith in simp tests
+
+  pub left-room : {n p : ℕ} → a .number ≡ 0 → length found < 8 → n ≡ numberOf Room → p ≡ placeOf Room → lookedUpBy n p found ≡ replyLeft a found
+  unfolding replyLeft
+  left-room e h g i = rw (g, i) (simp (tests, e))
+
+  pub left-put : (after : List ℕ) → a .number ≡ 0 → 8 ≤ length found → after ≡ put found 0 (a .values)
+      → lookedUpBy 0 0 after ≡ replyLeft a found
+  unfolding replyLeft
+  left-put after e h f = rw f (simp (tests, e))

@@ -1,0 +1,16 @@
+-- `boundary::found` meets its contract: with a source or without.
+use borrow.Author.Needs.{needs}
+use native.Mathlib.Omega.{arith}
+use Rattle.boundary.proofs.Replies.{of-none, of-domain}
+use Rattle.boundary.proofs.found.Statement.{statement}
+use Rattle.boundary.proofs.found.Tie as tie
+
+pub found-spec : {M : Type 1} → statement M
+found-spec =
+    tie.close
+    (tie.spec
+    (λ c. search needs)
+    (λ c. search needs)
+    (λ c. search needs)
+    (λ c. of-none _ _ _ _ _ _ _ (cc))
+    (λ c. of-domain _ _ _ _ _ _ _ (c .before .source .given .0 .0) (cc)))

@@ -1,0 +1,22 @@
+-- `boundary::in_numbers` meets its contract: each answer's own numbers.
+use borrow.Author.Needs.{needs}
+use Rattle.boundary.proofs.Replies.{reply-absent, reply-gone, reply-present, reply-refused}
+use Rattle.boundary.proofs.in_numbers.Statement.{statement}
+use Rattle.boundary.proofs.in_numbers.Tie as tie
+
+pub in-numbers-spec : {M : Type 1} → statement M
+in-numbers-spec =
+    tie.close
+    (tie.spec
+    (λ c. search needs)
+    (λ c. search needs)
+    (λ c κs. search needs)
+    (λ c. search needs)
+    (λ c κs. search needs)
+    (λ c. search needs)
+    (λ c κs. search needs)
+    (λ c κs. search needs)
+    (λ c. reply-absent _ (cc))
+    (λ c. reply-gone _ {v = (c .before .before .f .given .0 .0)} {d = (c .before .before .f .given .0 .1 .0)} {o = (c .before .before .f .given .0 .1 .1 .0)} (cc) (c .found .ensures))
+    (λ c. reply-present _ {v = (c .before .before .f2 .given .0 .0)} {d = (c .before .before .f2 .given .0 .1 .0)} {o = (c .before .before .f2 .given .0 .1 .1 .0)} {t = (c .before .before .f2 .given .0 .1 .1 .1 .0)} {at = (c .before .before .f2 .given .0 .1 .1 .1 .1 .0)} {n = (c .before .before .f2 .given .0 .1 .1 .1 .1 .1 .0)} (cc) (c .found2 .ensures))
+    (λ c. reply-refused _ {x = (c .before .before .before .f3 .given .0 .0)} (cc) (c .before .number .ensures) (c .place .ensures)))

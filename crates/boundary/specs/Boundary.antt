@@ -1,0 +1,111 @@
+-- The C boundary: what a call is lent, what it returns, and what it leaves. A refused call changes nothing but the place.
+--   tableIn        the numbers of a table that is lent as bytes, eight to a number
+--   tableCopied    the same by value
+--   told           check: the number returned and the place left, as document 01's answer
+--   LookedUp       look up: the number returned, the place left and the numbers left
+--   Sealed         write and tidy: the number returned, the place and the result's size left, and every byte of the output
+-- Assumes nothing: these are definitions.
+use Prim.Native.Nat.{ℕ, _-_, _*_, _/_, _%_}
+use mathlib.Core.Bool.{Bool, cond, _&&_}
+use mathlib.Core.List.{List, [], _∷_, _++_, map}
+use lib.Dec.{leb, eqb}
+use lib.ListN.{length, replicate}
+use Rattle.numbers.specs.Numbers.{numAt, put}
+use Rattle.rules.specs.declared.Refusal.the-variants.{Room}
+use Rattle.rules.specs.declared.Source.{Source}
+use Rattle.rules.specs.declared.Found.{Found}
+use Rattle.rules.specs.declared.Found.the-variants.{Absent, Gone, Present, Refused}
+use Rattle.rules.specs.Answers.{numberOf, placeOf, Answer, sourceValues}
+use Rattle.segment.specs.declared.header.Heading.{Heading}
+use Rattle.store.specs.declared.Table.{Table}
+use Rattle.segment.specs.Meaning.{countFrom}
+use Rattle.segment.specs.Tidy.{Outcome}
+use Rattle.boundary.specs.declared.Reply.{Reply}
+
+-- ---- the table
+
+-- number k of a run of bytes, eight bytes to a number
+abbrev pub wordNo : List ℕ → ℕ → ℕ
+wordNo bytes k = numAt 8 bytes (8 * k)
+
+-- the numbers of a table; where the last number is unfinished there is no table, and the empty list is none
+unfoldable pub tableIn : List ℕ → List ℕ
+tableIn bytes = cond (eqb (length bytes % 8) 0) (map (wordNo bytes) (countFrom 0 (length bytes / 8))) []
+
+-- whole numbers, at most 32
+abbrev pub fitsTable : List ℕ → Bool
+fitsTable bytes = eqb (length bytes % 8) 0 && leb (length bytes) 256
+
+-- the table by value, with zeros after the numbers; empty where they do not fit
+unfoldable pub tableCopied : List ℕ → Table
+tableCopied bytes =
+    cond (fitsTable bytes)
+    (record { numbers = tableIn bytes ++ replicate (32 - length bytes / 8) 0; count = length bytes / 8 })
+    (record { numbers = replicate 32 0; count = 0 })
+
+-- ---- check
+
+abbrev pub told : ℕ → ℕ → Answer
+told number place = record { number = number; place = place; values = [] }
+
+-- ---- look up
+
+-- an answer by value: 0 or the refusal's number, its place, and eight numbers: state (0 absent, 1 gone, 2 present), visibility,
+-- domain, imported, source, total, where its extents begin in the segment, and how many they are; what does not apply is 0
+unfoldable pub replied : ℕ → ℕ → ℕ → Source → ℕ → ℕ → ℕ → Reply
+replied state visibility domain source total start count = record {
+  number = 0;
+  place = 0;
+  values = state ∷ visibility ∷ domain ∷ sourceValues source ++ (total ∷ start ∷ count ∷ []);
+}
+
+unfoldable pub replyOf : Found → Reply
+replyOf Absent = record { number = 0; place = 0; values = replicate 8 0 }
+replyOf (Gone visibility domain source) = replied 1 visibility domain source 0 0 0
+replyOf (Present visibility domain source total start count) = replied 2 visibility domain source total start count
+replyOf (Refused r) = record { number = numberOf r; place = placeOf r; values = replicate 8 0 }
+
+pub record LookedUp : Type 0 where
+  pub number : ℕ
+  pub place : ℕ
+  pub found : List ℕ
+
+abbrev pub lookedUpBy : ℕ → ℕ → List ℕ → LookedUp
+lookedUpBy number place found = record { number = number; place = place; found = found }
+
+-- a reply goes to the front of the lent numbers; 13, after every other refusal, where they are fewer than eight
+unfoldable pub replyLeft : Reply → List ℕ → LookedUp
+replyLeft a found =
+    cond (eqb (a .number) 0)
+    (cond (leb 8 (length found)) (lookedUpBy 0 0 (put found 0 (a .values))) (lookedUpBy (numberOf Room) (placeOf Room) found))
+    (lookedUpBy (a .number) (a .place) found)
+
+-- ---- write and tidy
+
+-- the header numbers, as they are lent
+abbrev pub headed : ℕ → ℕ → ℕ → ℕ → ℕ → ℕ → Heading
+headed shard snapshotMin snapshotMax domain sealSnapshot sealTime = record {
+  shard = shard;
+  «snapshot_min» = snapshotMin;
+  «snapshot_max» = snapshotMax;
+  domain = domain;
+  «seal_snapshot» = sealSnapshot;
+  «seal_time» = sealTime;
+}
+
+pub record Sealed : Type 0 where
+  pub number : ℕ
+  pub place : ℕ
+  pub size : ℕ
+  pub output : List ℕ
+
+abbrev pub sealedBy : ℕ → ℕ → ℕ → List ℕ → Sealed
+sealedBy number place size output = record { number = number; place = place; size = size; output = output }
+
+-- the result's size, or, where there is no result, the size that stood there
+abbrev pub sizeAfter : List ℕ → ℕ → ℕ
+sizeAfter [] before = before
+sizeAfter (n ∷ ns) before = n
+
+unfoldable pub sealedAs : Outcome → ℕ → Sealed
+sealedAs o before = sealedBy (o .answer .number) (o .answer .place) (sizeAfter (o .answer .values) before) (o .output)

@@ -1,0 +1,172 @@
+// What stands at the C boundary below the entry points: the table as C lends it, and the answers as C is given them.
+ghost use mathlib.Core.Path.{_≡_};
+ghost use mathlib.Core.List.{_++_};
+ghost use Prim.Native.Nat.{_-_, _/_, _%_, _≤_};
+ghost use lib.ListN.{length, replicate};
+ghost use Rattle.numbers.specs.Numbers.{put};
+ghost use Rattle.rules.specs.Answers.{numberOf, placeOf, writtenAnswer};
+ghost use Rattle.boundary.specs.Boundary.{tableIn, tableCopied, replied, replyOf, lookedUpBy, replyLeft, sizeAfter};
+use rules::Found;
+use rules::Refusal;
+use rules::Source;
+use rules::Written;
+use store::Table;
+
+// Look up's answer in numbers.
+pub struct Reply {
+    pub number: u64,
+    pub place: u64,
+    pub values: [u64; 8],
+}
+
+// The numbers of a table, each eight bytes, at the front of an array with zeros after them.
+fn numbers_in(bytes: &[u8]) -> [u64; 32]
+    requires { ⌜ (length (now bytes) % 8 ≡ 0) × (length (now bytes) ≤ 256) ⌝ }
+    ensures { λ r. ⌜ r ≡ tableIn (now (bytes .entry)) ++ replicate (32 - length (now (bytes .entry)) / 8) 0 ⌝ }
+{
+    let mut words = [0u64; 32];
+    let mut i = 0;
+    while i < bytes.len() / 8 {
+        words[i] = numbers::u64_at(bytes, 8 * i);
+        i += 1;
+    }
+    words
+}
+
+fn no_table() -> Table
+    ensures { λ r. ⌜ r ≡ record { numbers = replicate 32 0; count = 0 } ⌝ }
+{
+    Table {
+        numbers: [0u64; 32],
+        count: 0,
+    }
+}
+
+// The table that bytes hold. Where a number is unfinished, or there are too many, it is the empty one, which keeps the rule
+// as little as they do.
+pub fn table_in(bytes: &[u8]) -> Table
+    ensures { λ r. ⌜ r ≡ tableCopied (now (bytes .entry)) ⌝ }
+{
+    if bytes.len() % 8 != 0 {
+        return no_table();
+    }
+    if 256 < bytes.len() {
+        return no_table();
+    }
+    Table {
+        numbers: numbers_in(bytes),
+        count: bytes.len() / 8,
+    }
+}
+
+// Says a refusal: its place, and its number as the result.
+pub fn refuse(r: Refusal, place: &mut u64) -> u64
+    ensures { λ n. ⌜ (n ≡ numberOf r) × (now (place .exit) ≡ placeOf r) ⌝ }
+{
+    *place = rules::place(r);
+    rules::number(r)
+}
+
+// Says what write and tidy answered. The size stays where there is no result.
+pub fn settle(w: Written, size: &mut u64, place: &mut u64) -> u64
+    ensures { λ n. ⌜ (n ≡ writtenAnswer w .number) × (now (place .exit) ≡ writtenAnswer w .place)
+        × (now (size .exit) ≡ sizeAfter (writtenAnswer w .values) (now (size .entry))) ⌝ }
+{
+    match w {
+        Written::Done(n) => {
+            *size = n;
+            *place = 0;
+            0
+        }
+        Written::Refused(r) => refuse(r, place),
+    }
+}
+
+// The reply of a record that was found.
+fn found(
+    state: u64,
+    visibility: u8,
+    domain: u32,
+    source: Source,
+    total: u64,
+    start: u64,
+    count: u32,
+) -> Reply
+    ensures { λ r. ⌜ r ≡ replied state visibility domain source total start count ⌝ }
+{
+    let v = visibility as u64;
+    let d = domain as u64;
+    let n = count as u64;
+    match source {
+        Source::None => Reply {
+            number: 0,
+            place: 0,
+            values: [state, v, d, 0, 0, total, start, n],
+        },
+        Source::Domain(from) => Reply {
+            number: 0,
+            place: 0,
+            values: [state, v, d, 1, from as u64, total, start, n],
+        },
+    }
+}
+
+pub fn in_numbers(f: Found) -> Reply
+    ensures { λ r. ⌜ r ≡ replyOf f ⌝ }
+{
+    match f {
+        Found::Absent => Reply {
+            number: 0,
+            place: 0,
+            values: [0u64; 8],
+        },
+        Found::Gone {
+            visibility,
+            domain,
+            source,
+        } => found(1, visibility, domain, source, 0, 0, 0),
+        Found::Present {
+            visibility,
+            domain,
+            source,
+            total,
+            start,
+            count,
+        } => found(2, visibility, domain, source, total, start, count),
+        Found::Refused(r) => Reply {
+            number: rules::number(r),
+            place: rules::place(r),
+            values: [0u64; 8],
+        },
+    }
+}
+
+// Numbers, put to the front of the lent ones.
+pub fn put_values(values: &[u64], found: &mut [u64])
+    requires { ⌜ length (now values) ≤ length (now found) ⌝ }
+    ensures { λ _. ⌜ now (found .exit) ≡ put (now (found .entry)) 0 (now (values .entry)) ⌝ }
+{
+    let mut i = 0;
+    while i < values.len() {
+        found[i] = values[i];
+        i += 1;
+    }
+}
+
+// Leaves a reply in the lent numbers, which have to be eight at least, or says why not.
+pub fn leave(a: Reply, found: &mut [u64], place: &mut u64) -> u64
+    requires { ⌜ length (a .values) ≡ 8 ⌝ }
+    ensures { λ n. ⌜ lookedUpBy n (now (place .exit)) (now (found .exit)) ≡ replyLeft a (now (found .entry)) ⌝ }
+{
+    if a.number != 0 {
+        *place = a.place;
+        return a.number;
+    }
+    let values = a.values;
+    if found.len() < 8 {
+        return refuse(Refusal::Room, place);
+    }
+    put_values(&values[..8], found);
+    *place = 0;
+    0
+}
