@@ -48,6 +48,15 @@ def edges(value, size):
     return sorted({new for new in near + ends + wrapped if 0 <= new < width} - {value})
 
 
+def of_a_record(damage):
+    """Makes a damage of one record, at its number and its first byte; it does not apply where there
+    is none."""
+    def chosen(patient):
+        one = patient.some_record()
+        return one and damage(patient, *one)
+    return chosen
+
+
 def field_at_edge(patient, fields, start, owner):
     name = patient.rng.choice(list(fields))
     old = get(patient.bytes, start, fields[name])
@@ -85,9 +94,9 @@ def header_field(patient):
     return field_at_edge(patient, HEADER_FIELDS, 0, "header")
 
 
-def record_field(patient):
-    chosen = patient.some_record()
-    return chosen and field_at_edge(patient, RECORD_FIELDS, chosen[1], f"record {chosen[0]}")
+@of_a_record
+def record_field(patient, number, record):
+    return field_at_edge(patient, RECORD_FIELDS, record, f"record {number}")
 
 
 def extent_field(patient):
@@ -166,82 +175,69 @@ def sections_traded(patient):
 
 # Records --------------------------------------------------------------------------------------
 
-def marks(patient):
+@of_a_record
+def marks(patient, number, record):
     """Refusal 7's fields at values that are nearly right."""
-    chosen = patient.some_record()
-    if not chosen:
-        return None
     name, values = patient.rng.choice((
         ("visibility", (0, 1, 2)), ("imported", (0, 1, 2)), ("source", (0, 1, 2**32 - 1)),
         ("flags", (0, 1, 2, 3, 2**31)), ("reserved 6", (0, 1)), ("reserved 38", (0, 2**8)),
         ("domain", (patient.header("domain") ^ 1, patient.header("domain") ^ 2**31))))
     value = patient.rng.choice(values)
-    patient.put_record(chosen[1], name, value)
-    return f"record {chosen[0]} {name} = {value}"
+    patient.put_record(record, name, value)
+    return f"record {number} {name} = {value}"
 
 
-def digest_at_section_edge(patient):
+@of_a_record
+def digest_at_section_edge(patient, number, record):
     """The digest ends at, or passes, the section's end; or starts at, or before, its start."""
-    chosen = patient.some_record()
-    if not chosen:
-        return None
-    length = patient.record(chosen[1], "digest length")
+    length = patient.record(record, "digest length")
     start, end = patient.places.digests, patient.places.digests_end
     place = patient.rng.choice((start, start - 1, end - length, end - length + 1, end - 1, end,
                                 end + 1, 0, 2**64 - 1, 2**64 - length, 2**64 - length + 1))
-    patient.put_record(chosen[1], "digest offset", place)
-    return f"record {chosen[0]} digest offset {place}, section {start} to {end}"
+    patient.put_record(record, "digest offset", place)
+    return f"record {number} digest offset {place}, section {start} to {end}"
 
 
-def other_pair(patient):
+@of_a_record
+def other_pair(patient, number, record):
     """The hash id of another pair, with its own length, the old one, or one next to it."""
-    chosen = patient.some_record()
-    if not chosen:
-        return None
     pair = 2 * patient.rng.randrange(len(patient.table) // 2)
-    patient.put_record(chosen[1], "hash id", patient.table[pair])
+    patient.put_record(record, "hash id", patient.table[pair])
     length = patient.table[pair + 1] + patient.rng.choice((0, 0, -1, 1))
     if patient.rng.random() < 0.7:
-        patient.put_record(chosen[1], "digest length", length)
-    return f"record {chosen[0]} takes pair {pair // 2} of the table"
+        patient.put_record(record, "digest length", length)
+    return f"record {number} takes pair {pair // 2} of the table"
 
 
-def extents_at_section_edge(patient):
-    chosen = patient.some_record()
-    if not chosen:
-        return None
-    count = patient.record(chosen[1], "extent count")
+@of_a_record
+def extents_at_section_edge(patient, number, record):
+    count = patient.record(record, "extent count")
     start, end = patient.places.extents_start, patient.places.footer
     last = end - EXTENT_SIZE * count
     place = patient.rng.choice((start, start - 16, start + 8, last, last + 16, last - 16,
                                 last + 8, end, end + 16, 0, 2**64 - 16 * count, 2**64 - 16))
-    patient.put_record(chosen[1], "extents offset", place)
-    return f"record {chosen[0]} extents offset {place}, section {start} to {end}"
+    patient.put_record(record, "extents offset", place)
+    return f"record {number} extents offset {place}, section {start} to {end}"
 
 
-def extent_count_at_edge(patient):
-    chosen = patient.some_record()
-    if not chosen:
-        return None
-    count = patient.record(chosen[1], "extent count")
+@of_a_record
+def extent_count_at_edge(patient, number, record):
+    count = patient.record(record, "extent count")
     there = len(patient.places.extents)
     new = patient.rng.choice((0, 1, count + 1, count - 1, there, there + 1, 2**28,
                               count + 2**28, 2**32 - 1))
-    patient.put_record(chosen[1], "extent count", new)
-    return f"record {chosen[0]} extent count {count} -> {new}"
+    patient.put_record(record, "extent count", new)
+    return f"record {number} extent count {count} -> {new}"
 
 
-def gone_turned(patient):
+@of_a_record
+def gone_turned(patient, number, record):
     """A live record marked gone, or a gone one live, with all or some of what belongs to it."""
-    chosen = patient.some_record()
-    if not chosen:
-        return None
-    number, start = chosen
-    patient.put_record(start, "flags", patient.record(start, "flags") ^ 1)
+    patient.put_record(record, "flags", patient.record(record, "flags") ^ 1)
     cleared = [name for name in ("extents offset", "extent count", "total")
                if patient.rng.random() < 0.6]
     for name in cleared:
-        patient.put_record(start, name, 0)
+        patient.put_record(record, name, 0)
     return f"record {number} gone mark turned, cleared {cleared}"
 
 
@@ -258,19 +254,16 @@ def extent_at_2_to_32(patient):
     return f"extent {number} offset {offset} modulo 2^32, length {length}"
 
 
-def total_of_its_extents(patient):
+@of_a_record
+def total_of_its_extents(patient, number, record):
     """A total made right, modulo 2^32, for whatever the record's extents now are; sometimes
     then one off."""
-    chosen = patient.some_record()
-    if not chosen:
-        return None
-    number, start = chosen
-    first = patient.record(start, "extents offset")
-    count = min(patient.record(start, "extent count"), len(patient.places.extents))
+    first = patient.record(record, "extents offset")
+    count = min(patient.record(record, "extent count"), len(patient.places.extents))
     total = sum(get(patient.bytes, first + EXTENT_SIZE * i, EXTENT_FIELDS["length"])
                 for i in range(count))
     off = patient.rng.choice((0, 0, -1, 1))
-    patient.put_record(start, "total", total + off)
+    patient.put_record(record, "total", total + off)
     return f"record {number} total {total} {off:+d} modulo 2^32"
 
 

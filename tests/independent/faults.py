@@ -21,6 +21,20 @@ def some_live_entry(rng, lent):
     return rng.choice(live) if live else None
 
 
+def of(choose):
+    """Makes a fault of one entry, which is chosen so; it does not apply where there is none."""
+    def marked(fault):
+        def chosen(rng, lent):
+            number = choose(rng, lent)
+            return None if number is None else fault(rng, lent, number)
+        return chosen
+    return marked
+
+
+of_an_entry = of(some_entry)
+of_a_live_entry = of(some_live_entry)
+
+
 def table(rng, lent):
     if len(lent.table) < 2:  # broken already, and no pair is left to break
         return None
@@ -33,11 +47,9 @@ def bloom_length(rng, lent):
     return f"bloom of {len(lent.bloom)} bytes"
 
 
-def entry_field(rng, lent):
+@of_an_entry
+def entry_field(rng, lent, number):
     """Any number of an entry at an edge, or equal to the right one modulo a field's width."""
-    number = some_entry(rng, lent)
-    if number is None:
-        return None
     field = rng.randrange(len(asl.Entry._fields))
     old = lent.entries[number][field]
     new = rng.choice((0, 1, 2, 255, 256, 2**16, 2**32 - 1, 2**32, 2**64 - 1, max(old - 1, 0),
@@ -46,10 +58,8 @@ def entry_field(rng, lent):
     return f"entry {number} {asl.Entry._fields[field]} {old} -> {new}"
 
 
-def mark(rng, lent):
-    number = some_entry(rng, lent)
-    if number is None:
-        return None
+@of_an_entry
+def mark(rng, lent, number):
     field, values = rng.choice(((VISIBILITY, (0, 1, 2, 256)), (IMPORTED, (0, 1, 2, 256)),
                                 (GONE, (0, 1, 2, 2**32)), (SOURCE, (0, 1, 2**32 - 1, 2**32))))
     value = rng.choice(values)
@@ -57,11 +67,9 @@ def mark(rng, lent):
     return f"entry {number} {asl.Entry._fields[field]} = {value}"
 
 
-def digest_at_end(rng, lent):
+@of_an_entry
+def digest_at_end(rng, lent, number):
     """The digest ends at, or passes, the end of the lent bytes; or wraps."""
-    number = some_entry(rng, lent)
-    if number is None:
-        return None
     end = len(lent.digests)
     last = max(end - lent.entries[number][DIGEST_LENGTH], 0)
     start = rng.choice((last, last + 1, end, end + 1, 2**64 - 1,
@@ -70,10 +78,8 @@ def digest_at_end(rng, lent):
     return f"entry {number} digest start {start} of {end}"
 
 
-def digest_length(rng, lent):
-    number = some_entry(rng, lent)
-    if number is None:
-        return None
+@of_an_entry
+def digest_length(rng, lent, number):
     old = lent.entries[number][DIGEST_LENGTH]
     new = rng.choice((0, max(old - 1, 0), old + 1, rng.choice(USUAL_LENGTHS), old + 2**16,
                       2**64 - 1)) % 2**64
@@ -83,11 +89,9 @@ def digest_length(rng, lent):
     return f"entry {number} digest length {old} -> {new}"
 
 
-def extents_at_end(rng, lent):
+@of_an_entry
+def extents_at_end(rng, lent, number):
     """The run of extents ends at, or passes, the end of the lent list; or wraps."""
-    number = some_entry(rng, lent)
-    if number is None:
-        return None
     end, count = len(lent.extents), lent.entries[number][COUNT]
     first = rng.choice((max(end - count, 0), max(end - count, 0) + 1, end, end + 1, 2**64 - 1,
                         2**64 - count)) % 2**64
@@ -95,10 +99,8 @@ def extents_at_end(rng, lent):
     return f"entry {number} first extent {first}, count {count}, of {end}"
 
 
-def extent_count(rng, lent):
-    number = some_entry(rng, lent)
-    if number is None:
-        return None
+@of_an_entry
+def extent_count(rng, lent, number):
     end, old = len(lent.extents), lent.entries[number][COUNT]
     first = lent.entries[number][FIRST]
     new = rng.choice((0, 1, old + 1, max(end - first, 0), max(end - first, 0) + 1, 2**32 - 1,
@@ -107,10 +109,8 @@ def extent_count(rng, lent):
     return f"entry {number} extent count {old} -> {new}, first {first}, of {end}"
 
 
-def gone_turned(rng, lent):
-    number = some_entry(rng, lent)
-    if number is None:
-        return None
+@of_an_entry
+def gone_turned(rng, lent, number):
     entry = lent.entries[number]
     entry[GONE] ^= 1
     cleared = [field for field in (FIRST, COUNT) if rng.random() < 0.5]
@@ -131,11 +131,9 @@ def extent_field(rng, lent):
     return f"extent {number} {asl.Extent._fields[field]} {old} -> {new}"
 
 
-def extent_at_2_to_32(rng, lent):
+@of_a_live_entry
+def extent_at_2_to_32(rng, lent, number):
     """A used extent that ends at 2^32, or passes it by one."""
-    number = some_live_entry(rng, lent)
-    if number is None:
-        return None
     entry = lent.entries[number]
     place = entry[FIRST] + rng.randrange(entry[COUNT])
     length = rng.choice((0, 1, 2, 2**32 - 1, 2**32, rng.randint(1, 2**32 - 1)))
@@ -144,11 +142,9 @@ def extent_at_2_to_32(rng, lent):
     return f"entry {number} uses extent offset {offset} length {length}"
 
 
-def sum_at_2_to_32(rng, lent):
+@of_a_live_entry
+def sum_at_2_to_32(rng, lent, number):
     """An entry of two new extents whose lengths add up to 2^32 - 1, or to one more."""
-    number = some_live_entry(rng, lent)
-    if number is None:
-        return None
     one = rng.randint(1, 2**32 - 2)
     other = 2**32 - 1 - one + rng.randint(0, 1)
     lent.entries[number][FIRST], lent.entries[number][COUNT] = len(lent.extents), 2
@@ -156,11 +152,9 @@ def sum_at_2_to_32(rng, lent):
     return f"entry {number} of total {one + other}"
 
 
-def key_again(rng, lent):
+@of_an_entry
+def key_again(rng, lent, number):
     """Another entry with the key of one that stands there, from the same or from other bytes."""
-    number = some_entry(rng, lent)
-    if number is None:
-        return None
     entry = list(lent.entries[number])
     start, length = entry[DIGEST_START], entry[DIGEST_LENGTH]
     if rng.random() < 0.5 and start + length <= len(lent.digests):
