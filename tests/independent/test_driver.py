@@ -1,10 +1,12 @@
 """driver.c over bench/plain/plain.c answers as asl.py does; and the comparison notices, through
 driver.c, C programs that are wrong in ways that only C has.
 
-A wrong program is plain.c with some text replaced, so this needs a C compiler for this machine.
+A wrong program is plain.c, its own headers in their places, with some text replaced; so this needs a
+C compiler for this machine.
 """
 
 import random
+import re
 import subprocess
 import tempfile
 import unittest
@@ -19,9 +21,17 @@ from compare import Tally
 
 SEED = 20_241
 ROOT = Path(__file__).resolve().parent.parent.parent
-PLAIN = (ROOT / "bench/plain/plain.c").read_text()
 
-# What stands once in plain.c, and what stands in its place.
+
+def whole(name):
+    """A file of bench/plain with the headers of that folder in their places."""
+    text = (ROOT / "bench/plain" / name).read_text()
+    return re.sub(r'#include "((?:bytes|items)\.h)"\n', lambda found: whole(found.group(1)), text)
+
+
+PLAIN = whole("plain.c")
+
+# What stands once in it, and what stands in its place.
 WRONG = {
     "found is cleared before the check": (
         "if (!allows(&t, hash_id, digest_size)) return ASL_KEY;",

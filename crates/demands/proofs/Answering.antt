@@ -1,7 +1,7 @@
 -- Demand 1 for the four services together: whatever a service answers is answered, or refused by a number of the table; and what is refused is left.
 -- Assumes nothing.
 use Prim.Native.Nat.{ℕ, _≤_}
-use mathlib.Core.Path.{_≡_, refl}
+use mathlib.Core.Path.{refl}
 use mathlib.Core.List.{List}
 use native.Mathlib.Omega.{arith}
 use lib.ListN.{length}

@@ -4,13 +4,14 @@
 -- Assumes nothing.
 use Prim.Native.Nat.{ℕ, zero, suc, _+_, _*_, _<_}
 use mathlib.Core.Path.{_≡_, refl, sym, ap, ap₂, _∙_}
-use mathlib.Core.List.{List, [], _∷_, _++_, map}
+use mathlib.Core.List.{List, [], _∷_, map}
 use native.Mathlib.Nat.{mul-suc}
 use native.Mathlib.Numerals.{unary-clauses}
 use native.Mathlib.Omega.{arith}
 use lib.Dec.{lit<}
 use lib.ListN.{length, getD, length-append, List·getD-append}
 use lib.Seq.{getD-drop}
+use Rattle.numbers.proofs.Laws.{below-append}
 use Rattle.segment.specs.declared.entry.Entry.{Entry}
 use Rattle.segment.specs.declared.extent.Extent.{Extent}
 use Rattle.segment.specs.Format.{v3}
@@ -80,11 +81,6 @@ extents-read s k es h = extents-counted s k (length es) ∙ flat-read 3 extentNu
 
 abbrev Below : ℕ → List ℕ → Type 0
 Below b xs = (i : ℕ) → getD xs i 0 < b
-
-below-append : (b : ℕ) (xs ys : List ℕ) → Below b xs → Below b ys → Below b (xs ++ ys)
-below-append b [] ys p q i = q i
-below-append b (x ∷ xs) ys p q zero = p 0
-below-append b (x ∷ xs) ys p q (suc i) = below-append b xs ys (λ j. p (suc j)) q i
 
 pub below-flat : {A : Type 0} (numbers : A → List ℕ) (b : ℕ) (P : A → Type 0) → 0 < b → ((x : A) → P x → Below b (numbers x))
     → (xs : List A) → Each P xs → Below b (flat numbers xs)

@@ -3,7 +3,7 @@
 use Prim.Native.Nat.{ℕ, zero, suc, _+_, _-_, _*_, _/_, _%_, _^_, _≤_, _<_}
 use mathlib.Core.Path.{_≡_, refl, sym, ap, _∙_}
 use mathlib.Core.List.{List, [], _∷_, _++_, append-assoc, append-nil}
-use native.Mathlib.Nat.{pow-succ', pow-le-pow-right}
+use native.Mathlib.Nat.{pow-succ', one-le-pow, pow-le-pow-right}
 use native.Mathlib.Numerals.{add-one, sub-one}
 use native.Mathlib.Omega.{arith}
 use borrow.Author.Tests.{ltb-true, ltb-false}
@@ -13,7 +13,7 @@ use lib.ListN.{length, take, drop, set, getD, length-append, length-drop, length
 use lib.Seq.{take-suc, take-all, drop-drop, length-take-le, sets-eq}
 use Rattle.io.specs.Digits.{glyph, digits, Fewest}
 use Rattle.numbers.specs.Numbers.{put}
-use Rattle.numbers.proofs.Laws.{put-put, length-put}
+use Rattle.numbers.proofs.Laws.{put-put, length-put, put-none, set-put}
 use Rattle.rules.proofs.Order.{tests, by-test}
 use Rattle.digits.specs.Digits.{decimalIn, decimal, hex, Appended}
 
@@ -32,10 +32,6 @@ unfolding decimalIn
 one-digit zero n h = refl
 one-digit (suc most) n h = simp tests
 
-pow10-pos : (k : ℕ) → 0 < 10 ^ k
-pow10-pos zero = lit< tt
-pow10-pos (suc k) = rw pow-succ' (omega (arith, pow10-pos k))
-
 more-digits : (most n : ℕ) → 10 ≤ n → decimalIn (suc most) n ≡ decimalIn most (n / 10) ++ (glyph (n % 10) ∷ [])
 unfolding decimalIn
 more-digits most n h = simp tests
@@ -45,11 +41,13 @@ spelled-in : (k most n : ℕ) → n ≤ most → n < 10 ^ suc k → (0 < k → 1
 spelled-in zero most n l h g =
     let m : n % 10 ≡ n = omega arith in
     rw m (one-digit most n (omega arith))
-spelled-in (suc k) zero n l h g = absurd (omega (arith, pow10-pos (suc k), g (omega arith)))
+spelled-in (suc k) zero n l h g =
+    let p : 0 < 10 ^ suc k = one-le-pow (suc k) 10 (lit< tt) in
+    absurd (omega (arith, g (omega arith)))
 spelled-in (suc k) (suc most) n l h g =
     let a : n < 10 * 10 ^ suc k = rw pow-succ' at h in
     let b : 10 * 10 ^ k ≤ n = rw pow-succ' at (g (omega arith)) in
-    let p : 0 < 10 ^ k = pow10-pos k in
+    let p : 0 < 10 ^ k = one-le-pow k 10 (lit< tt) in
     let i : digits 10 (suc k) (n / 10) ≡ decimalIn most (n / 10) = spelled-in k most (n / 10) (omega arith) (omega arith) (λ z. omega arith) in
     ap (λ (d : List ℕ). d ++ (glyph (n % 10) ∷ [])) i ∙ sym (more-digits most n (omega arith))
 
@@ -70,19 +68,11 @@ unfolding hex
 hex-length [] = refl
 hex-length (x ∷ xs) = omega (arith, hex-length xs)
 
--- ---- stores
-
-one-store : (s : List ℕ) (k v : ℕ) → k < length s → set s k v ≡ put s k (v ∷ [])
-unfolding put
-one-store s k v h = sets-eq (v ∷ []) s k (omega arith)
+-- ---- two stores, and a word
 
 two-stores : (s : List ℕ) (k v w : ℕ) → k + 1 < length s → set (set s k v) (k + 1) w ≡ put s k (v ∷ w ∷ [])
 unfolding put
 two-stores s k v w h = rw add-one (sets-eq (v ∷ w ∷ []) s k (omega arith))
-
-put-nothing : (s : List ℕ) (k : ℕ) → k ≤ length s → put s k [] ≡ s
-unfolding put
-put-nothing s k h = sym (sets-eq [] s k (omega arith))
 
 -- a word copied to the front of what is lent from a place on
 pub lent : (s word q : List ℕ) (at : ℕ) → at + length word ≤ length s → q ≡ take (length word) word ++ drop (length word) (midOf at (length s - at) s)
@@ -126,7 +116,7 @@ closed s at xs end t stop e z h =
     let n = length-append xs (end ∷ []) in
     let l : length t ≡ length s = ap length e ∙ length-put s at xs (omega arith) in
     record {
-      same = one-store t stop end (omega arith) ∙ rw (e, z) (put-put s at xs (end ∷ []) (omega arith));
+      same = set-put t stop end (omega arith) ∙ rw (e, z) (put-put s at xs (end ∷ []) (omega arith));
       stops = omega arith;
       fits = omega arith;
       short = omega arith;
@@ -160,7 +150,7 @@ pub record Spelling (digest before : List ℕ) (at i : ℕ) (out : List ℕ) (st
 
 pub spelling-start : (digest before : List ℕ) (at : ℕ) → at + 2 * length digest < length before → Spelling digest before at 0 before at
 unfolding hex
-spelling-start digest before at h = record { within = omega arith; same = sym (put-nothing before at (omega arith)); stops = omega arith; long = refl }
+spelling-start digest before at h = record { within = omega arith; same = sym (put-none before at); stops = omega arith; long = refl }
 
 module _ (digest before : List ℕ) (at i : ℕ) (out : List ℕ) (stop : ℕ) (v : Spelling digest before at i out stop) (h : at + 2 * length digest < length before) where
   so-long : length (hex (take i digest)) ≡ 2 * i
@@ -192,7 +182,7 @@ module _ (digest before : List ℕ) (at i : ℕ) (out : List ℕ) (stop : ℕ) (
 
 -- nothing put
 pub nothing : (m : ℕ) (s : List ℕ) (at : ℕ) → at ≤ length s → Appended m s at [] s at
-nothing m s at h = record { same = sym (put-nothing s at h); stops = omega arith; fits = omega arith; short = omega arith }
+nothing m s at h = record { same = sym (put-none s at); stops = omega arith; fits = omega arith; short = omega arith }
 
 -- where it ends is inside
 pub stop-within : {m : ℕ} {s t : List ℕ} {at p : ℕ} {xs : List ℕ} → Appended m s at xs t p → p ≤ length t

@@ -89,7 +89,7 @@ fn header_for(t: Heading, bloom: u64, count: u64, s: Sizes) -> Header
     }
 }
 
-// Records, digests and extents, each lent its own stretch of the output.
+// Records, digests and extents, each lent its own stretch of the output: from r, from d and from x on.
 fn put_sections(
     h: Header,
     used: usize,
@@ -104,35 +104,13 @@ fn put_sections(
     requires { ⌜ Plan h (itemRows kind (now bytes) (now list) (now extents) (now numbers)) used (length (now out)) ⌝ }
     ensures { λ _. ⌜ now (out .exit) ≡ put (now (out .entry)) (recordsOffset h) (sectionsUnder h (itemRows kind (now (bytes .entry)) (now (list .entry)) (now (extents .entry)) (now (numbers .entry)))) ⌝ }
 {
-    let records_at = h.records_offset.0 as usize;
-    let digests_at = h.digests_offset.0 as usize;
-    let extents_at = h.extents_offset.0 as usize;
+    let r = h.records_offset.0 as usize;
+    let d = h.digests_offset.0 as usize;
+    let x = h.extents_offset.0 as usize;
     let end = out.len() - Footer::SIZE;
-    sections::put_records(
-        h,
-        kind,
-        bytes,
-        list,
-        extents,
-        numbers,
-        &mut out[records_at..digests_at],
-    );
-    sections::put_digest_section(
-        kind,
-        bytes,
-        list,
-        numbers,
-        used,
-        &mut out[digests_at..extents_at],
-    );
-    sections::put_extents(
-        kind,
-        bytes,
-        list,
-        extents,
-        numbers,
-        &mut out[extents_at..end],
-    );
+    sections::put_records(h, kind, bytes, list, extents, numbers, &mut out[r..d]);
+    sections::put_digest_section(kind, bytes, list, numbers, used, &mut out[d..x]);
+    sections::put_extents(kind, bytes, list, extents, numbers, &mut out[x..end]);
 }
 
 // Everything before the footer.

@@ -2,7 +2,7 @@
 -- accepted request says of the keys' items, for those who read on.
 -- Assumes nothing.
 use Prim.Native.Nat.{ℕ, _<_}
-use mathlib.Core.Path.{_≡_, refl, _∙_}
+use mathlib.Core.Path.{_≡_, refl}
 use mathlib.Core.Bool.{true}
 use mathlib.Core.Logic.{_↔_, Iff·rfl, by-cases}
 use mathlib.Core.List.{List}
@@ -136,12 +136,7 @@ module _ (sh : Shape) (pairs entries digests extents : List ℕ) where
       → Items Entries digests entries (entryCount entries)
   entries-stand each = record { each = λ k l. entry-stands k l (each k l) }
 
-  -- so it is where a request is accepted, and no key stands earlier
+  -- so it is where a request is accepted
   module _ (bloom : ℕ) (a : requestRules sh pairs bloom entries digests extents ≡ Accepted) where
     pub request-items : Items Entries digests entries (entryCount entries)
     request-items = entries-stand (request-book sh pairs entries digests extents bloom .0 a .each)
-
-    pub request-fresh : firstOver (entryCount entries) (freshKey (itemKey Entries digests entries)) ≡ Accepted
-    request-fresh =
-        same-keys entries digests (entryCount entries)
-        ∙ keys-book (entryKey entries digests) (entryCount entries) .1 (request-book sh pairs entries digests extents bloom .0 a .fresh)

@@ -19,8 +19,8 @@ frontFields h = kindFields h ++ countFields h
 unfoldable pub sectionFields : Header → List Field
 sectionFields h = u64 (h .«bloom_offset» .0) ∷ u64 (h .«bloom_size») ∷ u64 (h .«digests_offset» .0) ∷ u64 (h .«digests_size») ∷ []
 
-unfoldable pub extentsFields : Header → List Field
-extentsFields h = u64 (h .«extents_offset» .0) ∷ u64 (h .«extent_count») ∷ u32 (h .domain) ∷ u8 (h .visibility) ∷ []
+unfoldable pub extentsOwnerFields : Header → List Field
+extentsOwnerFields h = u64 (h .«extents_offset» .0) ∷ u64 (h .«extent_count») ∷ u32 (h .domain) ∷ u8 (h .visibility) ∷ []
 
 unfoldable pub lastFields : Header → List Field
 lastFields h = u8 (h .federation) ∷ u16 (h .reserved) ∷ u64 (h .flags) ∷ []

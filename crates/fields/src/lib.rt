@@ -11,7 +11,7 @@ ghost use Rattle.fields.specs.Groups.{
   countFields,
   frontFields,
   sectionFields,
-  extentsFields,
+  extentsOwnerFields,
   lastFields,
   identityFields,
   slicesFields,
@@ -61,9 +61,10 @@ fn put_sections(h: Header, out: &mut [u8])
     numbers::put_u64(out, 72, h.digests_size);
 }
 
-fn put_extents(h: Header, out: &mut [u8])
+// Where the extents stand and how many they are; then whose the segment is: domain and visibility.
+fn put_extents_and_owner(h: Header, out: &mut [u8])
     requires { ⌜ 112 ≤ length (now out) ⌝ }
-    ensures { λ _. ⌜ now (out .exit) ≡ put (now (out .entry)) 80 (packed (extentsFields h)) ⌝ }
+    ensures { λ _. ⌜ now (out .exit) ≡ put (now (out .entry)) 80 (packed (extentsOwnerFields h)) ⌝ }
 {
     numbers::put_u64(out, 80, h.extents_offset.0);
     numbers::put_u64(out, 88, h.extent_count);
@@ -87,7 +88,7 @@ pub fn put_header(h: Header, out: &mut [u8])
 {
     put_front(h, out);
     put_sections(h, out);
-    put_extents(h, out);
+    put_extents_and_owner(h, out);
     put_last(h, out);
 }
 

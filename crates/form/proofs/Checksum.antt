@@ -10,6 +10,7 @@ use lib.Bits.{xor-lt}
 use lib.Dec.{lit<}
 use lib.ListN.{length, replicate}
 use Rattle.numbers.specs.Numbers.{bytesOf, Bytes}
+use Rattle.numbers.proofs.Laws.{below-append}
 use Rattle.crc64.specs.Crc.{poly, ones, step, steps, byte, run, crc}
 use Rattle.crc64.proofs.Laws.{step-odd, step-even}
 use Rattle.segment.specs.declared.header.Header.{Header}
@@ -52,12 +53,8 @@ one-more {x} {xs} h p = record { bytes = go }
     go zero = h
     go (suc i) = p .bytes i
 
-rest-of : {x : ℕ} {xs : List ℕ} → AreBytes (x ∷ xs) → AreBytes xs
-rest-of p = record { bytes = λ i. p .bytes (suc i) }
-
 joined : {xs ys : List ℕ} → AreBytes xs → AreBytes ys → AreBytes (xs ++ ys)
-joined {xs = []} p q = q
-joined {xs = x ∷ xs} p q = one-more (p .bytes 0) (joined (rest-of p) q)
+joined {xs} {ys} p q = record { bytes = below-append 256 xs ys (p .bytes) (q .bytes) }
 
 number : (n v : ℕ) → AreBytes (bytesOf n v)
 unfolding bytesOf

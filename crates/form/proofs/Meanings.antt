@@ -1,19 +1,17 @@
 -- The meaning of a segment that meets the rules can be written: the numbers that were read fit their fields, and what the rules say of the records holds
 -- of their meanings.
 -- Assumes nothing.
-use Prim.Native.Nat.{ℕ, zero, suc, _+_, _-_, _*_, _^_, _≤_, _<_}
+use Prim.Native.Nat.{ℕ, zero, suc, _+_, _-_, _*_, _≤_, _<_}
 use mathlib.Core.Path.{_≡_, refl, ap}
 use mathlib.Core.HLevel.{¬-prop}
 use mathlib.Core.Logic.{_≢_}
-use mathlib.Core.List.{List, [], _∷_}
-use native.Mathlib.Nat.{pow-succ'}
+use mathlib.Core.List.{List}
 use native.Mathlib.Omega.{arith}
 use borrow.Author.Tests.{eqb-false}
-use lib.Dec.{lit<}
 use lib.ListN.{length, take, drop, length-drop}
 use lib.Seq.{length-take-le}
-use Rattle.numbers.specs.Numbers.{le, numAt, Bytes}
-use Rattle.numbers.proofs.Laws.{bytes-take, bytes-drop}
+use Rattle.numbers.specs.Numbers.{Bytes}
+use Rattle.numbers.proofs.Laws.{bytes-take, bytes-drop, num-fits}
 use Rattle.rules.proofs.Order.{by-test}
 use Rattle.segment.specs.declared.header.Header.{Header}
 use Rattle.segment.specs.declared.record.Record.{Record}
@@ -25,18 +23,6 @@ use Rattle.segment.proofs.Sources.{source-fits}
 use Rattle.order.specs.Order.{Each}
 use Rattle.form.specs.Form.{ExtentWritable, LiveWritable, Writable, Contents}
 use Rattle.form.proofs.Counted.{counted-long, each-iff, pairwise-iff}
-
--- ---- numbers that were read
-
-le-fits : (n : ℕ) (xs : List ℕ) → Bytes xs → le (take n xs) < 256 ^ n
-unfolding le
-le-fits zero xs b = lit< tt
-le-fits (suc n) [] b = rw pow-succ' (omega (arith, le-fits n [] b))
-le-fits (suc n) (x ∷ xs) b = rw pow-succ' (omega (arith, b 0, le-fits n xs (λ i. b (suc i))))
-
-pub num-fits : (n : ℕ) (s : List ℕ) (k : ℕ) → Bytes s → numAt n s k < 256 ^ n
-unfolding numAt
-num-fits n s k b = le-fits n (drop k s) (bytes-drop k s b)
 
 -- ---- extents
 

@@ -1,5 +1,5 @@
 -- An item that may be written, and its row in the meaning: the row's parts are the item's numbers, its record is the row's, items sorted by their
--- keys are rows sorted by theirs; and each kind's rows are those of the meaning.
+-- keys are rows sorted by theirs; and a record's row is that of the meaning.
 -- Assumes nothing.
 use Prim.Native.Nat.{ℕ, max}
 use mathlib.Core.Path.{_≡_, refl, sym, ap, _∙_}
@@ -18,7 +18,7 @@ use Rattle.segment.specs.Keys.{insert, sortBy}
 use Rattle.segment.specs.Check.{sumLengths, digestIn}
 use Rattle.segment.specs.Meaning.{gone, Row, rowKey, rowExtents, sourceOf, rowOf, rowNo}
 use Rattle.segment.specs.Tidy.{importedOf, domainOf, flagsOf, placeOf, recordFor, digestBytes, extentTotal, largestVisibility, rowLeq}
-use Rattle.segment.specs.Write.{entryNo, entryDigestBytes, extentsFrom, entryRow}
+use Rattle.segment.specs.Write.{entryNo, extentsFrom}
 use Rattle.segment.proofs.Extents.{listed-counted}
 use Rattle.form.proofs.Meanings.{extents-counted}
 use Rattle.keys.specs.declared.Kind.{Kind}
@@ -195,12 +195,8 @@ module _ (kind : Kind) (bytes list extents : List ℕ) where
   visibility-comes [] = refl
   visibility-comes (k ∷ ks) = ap (max (itemEntry kind bytes list k .visibility)) (visibility-comes ks)
 
--- ---- each kind's rows are those of the meaning
+-- ---- a record's row is that of the meaning
 
 pub record-row : (s list extents : List ℕ) (h : Header) (k : ℕ) → itemRow (Records (recordsOffset h)) s list extents k ≡ rowNo v3 s h k
 unfolding itemRow rowOfEntry itemEntry recordEntry extentsOfEntry itemExtents rowNo rowOf recordNo digestIn
 record-row s list extents h k = refl
-
-pub entry-row : (entries digests extents : List ℕ) (k : ℕ) → itemRow Entries digests entries extents k ≡ entryRow entries digests extents k
-unfolding itemRow rowOfEntry itemEntry extentsOfEntry itemExtents entryRow entryDigestBytes
-entry-row entries digests extents k = refl

@@ -1,14 +1,14 @@
 -- The laws of little-endian numbers, each over the width. The two round trips are numAt-put and put-numAt.
 -- Assumes nothing.
 use Prim.Native.Nat.{ℕ, zero, suc, _+_, _*_, _/_, _%_, _^_, _≤_, _<_}
-use mathlib.Core.Path.{_≡_, refl, sym, ap, _∙_}
-use mathlib.Core.List.{List, [], _∷_, _++_, append-assoc}
-use native.Mathlib.Nat.{add-assoc, mul-assoc, zero-add, suc-add, pow-suc, pow-succ', div-one, div-div-eq-div-mul}
+use mathlib.Core.Path.{_≡_, refl, sym, ap}
+use mathlib.Core.List.{List, [], _∷_, _++_, append-assoc, append-nil}
+use native.Mathlib.Nat.{add-assoc, mul-assoc, zero-add, suc-add, pow-suc, pow-succ', one-le-pow, div-one, div-div-eq-div-mul}
 use native.Mathlib.Omega.{arith}
 use lib.Arith.{mod-mul}
 use lib.Dec.{lit<}
 use lib.ListN.{length, getD, take, drop, set, length-append, length-drop, take-append-drop}
-use lib.Seq.{take-take, take-add, drop-drop, drop-cons, length-take-le, take-at, drop-at, getD-drop, sets-eq}
+use lib.Seq.{take-add, drop-drop, drop-cons, length-take-le, take-at, drop-at, getD-drop, sets-eq}
 use Rattle.numbers.specs.Numbers.{le, numAt, bytesOf, put, Bytes}
 
 -- two runs of bytes: the second counts by 256 to the first's length
@@ -105,16 +105,12 @@ put-numAt n s k h bs =
     let e : bytesOf n (le xs) ≡ xs = rw l at (bytesOf-le xs (bytes-take n (drop k s) (bytes-drop k s bs))) in
     rw (e, l, ← drop-drop n k s, append-assoc, take-append-drop n (drop k s), take-append-drop k s)
 
-pow256-pos : (n : ℕ) → 0 < 256 ^ n
-pow256-pos zero = lit< tt
-pow256-pos (suc n) = rw pow-suc (omega (arith, pow256-pos n))
-
 -- the bytes above the width do not count
 pub bytesOf-mod : (n v : ℕ) → bytesOf n (v % 256 ^ n) ≡ bytesOf n v
 unfolding bytesOf
 bytesOf-mod zero v = refl
 bytesOf-mod (suc n) v =
-    let e : v % 256 ^ suc n ≡ (v / 256 % 256 ^ n) * 256 + v % 256 = rw pow-suc (mod-mul v (pow256-pos n) (lit< tt)) in
+    let e : v % 256 ^ suc n ≡ (v / 256 % 256 ^ n) * 256 + v % 256 = rw pow-suc (mod-mul v (one-le-pow n 256 (lit< tt)) (lit< tt)) in
     let e₁ : v % 256 ^ suc n % 256 ≡ v % 256 = omega arith in
     let e₂ : v % 256 ^ suc n / 256 ≡ v / 256 % 256 ^ n = omega arith in
     rw (e₁, e₂, bytesOf-mod n (v / 256))
@@ -133,35 +129,36 @@ write-halves n s k v h p q =
     rw l at (put-put s k (bytesOf n v) (bytesOf n (v / 256 ^ n)) (omega arith)) in
     rw (q, p, bytesOf-mod, bytesOf-add) j
 
--- the store of one byte
+-- nothing put, and one byte stored
+pub put-none : (s : List ℕ) (k : ℕ) → put s k [] ≡ s
+unfolding put
+put-none s k =
+    let e : k + 0 ≡ k = omega arith in
+    rw (append-nil (take k s), e) (take-append-drop k s)
+
+pub set-put : (s : List ℕ) (k v : ℕ) → k < length s → set s k v ≡ put s k (v ∷ [])
+unfolding put
+set-put s k v h = sets-eq (v ∷ []) s k (omega arith)
+
 pub put-byte : (s : List ℕ) (k v : ℕ) → k < length s → v < 256 → set s k v ≡ put s k (bytesOf 1 v)
-unfolding put bytesOf
+unfolding bytesOf
 put-byte s k v h hv =
     let e : v % 256 ≡ v = omega arith in
-    rw e (sets-eq (v ∷ []) s k (omega arith))
+    rw e (set-put s k v h)
 
--- a number of n bytes is below 256 to the n
-pub le-lt : (bs : List ℕ) → Bytes bs → le bs < 256 ^ length bs
+-- a number that n bytes write is below 256 to the n
+le-fits : (n : ℕ) (bs : List ℕ) → Bytes bs → le (take n bs) < 256 ^ n
 unfolding le
-le-lt [] h = lit< tt
-le-lt (b ∷ bs) h = rw pow-succ' (omega (arith, h 0, le-lt bs (λ i. h (suc i))))
+le-fits zero bs h = lit< tt
+le-fits (suc n) [] h = rw pow-succ' (omega (arith, le-fits n [] h))
+le-fits (suc n) (b ∷ bs) h = rw pow-succ' (omega (arith, h 0, le-fits n bs (λ i. h (suc i))))
 
-take-part : (n k m : ℕ) (l : List ℕ) → k + n ≤ m → take n (drop k (take m l)) ≡ take n (drop k l)
-take-part n zero m l h = take-take n m l (omega arith)
-take-part n (suc k) zero l h = absurd (omega arith)
-take-part n (suc k) (suc m) [] h = refl
-take-part n (suc k) (suc m) (x ∷ l) h = take-part n k m l (omega arith)
-
--- a number in a part is that number in the whole
-pub numAt-part : (n m a k : ℕ) (s : List ℕ) → k + n ≤ m → a + m ≤ length s → numAt n (take m (drop a s)) k ≡ numAt n s (a + k)
+pub num-fits : (n : ℕ) (s : List ℕ) (k : ℕ) → Bytes s → numAt n s k < 256 ^ n
 unfolding numAt
-numAt-part n m a k s h r =
-    rw (← drop-drop, ← take-part n k m (drop a s))
+num-fits n s k h = le-fits n (drop k s) (bytes-drop k s h)
 
--- one write does not change a number elsewhere
-pub numAt-before : (n k : ℕ) (s : List ℕ) (at : ℕ) (bs : List ℕ) → k + n ≤ at → at ≤ length s → numAt n (put s at bs) k ≡ numAt n s k
-unfolding numAt put
-numAt-before n k s at bs h r =
-    let l : List ℕ = take at s ++ bs ++ drop (at + length bs) s in
-    let e : take at l ≡ take at s = rw (append-assoc, take-at (take at s) _ at (length-take-le at s r)) in
-    ap le (sym (take-part n k at l h) ∙ ap (λ (x : List ℕ). take n (drop k x)) e ∙ take-part n k at s h)
+-- two lists of numbers below a bound, one behind the other, are below it; so bytes behind bytes are bytes
+pub below-append : (b : ℕ) (xs ys : List ℕ) → ((i : ℕ) → getD xs i 0 < b) → ((i : ℕ) → getD ys i 0 < b) → (i : ℕ) → getD (xs ++ ys) i 0 < b
+below-append b [] ys p q i = q i
+below-append b (x ∷ xs) ys p q zero = p 0
+below-append b (x ∷ xs) ys p q (suc i) = below-append b xs ys (λ j. p (suc j)) q i

@@ -7,10 +7,10 @@ use mathlib.Core.List.{List, [], _∷_, _++_, append-nil, append-assoc}
 use native.Mathlib.Numerals.{add-one}
 use native.Mathlib.Omega.{arith}
 use borrow.Author.Fill.{fill-more}
-use lib.ListN.{length, length-set, getD, set, take, drop, replicate, drop-of-length-le, take-append-drop}
-use lib.Seq.{take-all, take-suc, sets-eq, length-take-le}
+use lib.ListN.{length, length-set, getD, set, take, drop, replicate, drop-of-length-le}
+use lib.Seq.{take-all, take-suc, length-take-le}
 use Rattle.numbers.specs.Numbers.{put}
-use Rattle.numbers.proofs.Laws.{put-put, length-put}
+use Rattle.numbers.proofs.Laws.{put-put, length-put, put-none, set-put}
 use Rattle.segment.specs.declared.extent.Extent.{Extent}
 use Rattle.segment.specs.Format.{extentOf, extentsAt}
 use Rattle.segment.specs.Tidy.{packed, extentFields, extentListBytes}
@@ -20,17 +20,6 @@ use Rattle.keys.specs.declared.Kind.{Kind}
 use Rattle.keys.specs.declared.Kind.the-variants.{Records, Entries}
 use Rattle.lines.specs.Lines.{Held, itemExtent, itemExtents}
 use Rattle.lines.proofs.Rows.{extents-length, extents-none}
-
--- nothing put, and one byte
-put-none : (s : List ℕ) (k : ℕ) → put s k [] ≡ s
-unfolding put
-put-none s k =
-    let e : k + 0 ≡ k = omega arith in
-    rw (append-nil (take k s), e) (take-append-drop k s)
-
-set-put : (s : List ℕ) (k v : ℕ) → k < length s → set s k v ≡ put s k (v ∷ [])
-unfolding put
-set-put s k v h = sets-eq (v ∷ []) s k (omega arith)
 
 -- ---- a copy
 

@@ -9,6 +9,7 @@ use native.Mathlib.Decide.{ℕ-discrete}
 use native.Mathlib.Omega.{arith}
 use lib.ListN.{length, take, drop}
 use Rattle.numbers.specs.Numbers.{Bytes}
+use Rattle.numbers.proofs.Laws.{num-fits}
 use Rattle.rules.specs.declared.Refusal.the-variants.{Table as TableWrong}
 use Rattle.rules.specs.declared.Verdict.the-variants.{Accepted}
 use Rattle.rules.specs.declared.Written.{Written}
@@ -23,7 +24,6 @@ use Rattle.segment.specs.Meets.{Meets}
 use Rattle.segment.specs.Meaning.{rowOf, rowNo, rowsOf, headingOf, meaningOf}
 use Rattle.segment.specs.Tidy.{tidyForm, settled, outcome, tidied, tidyOf}
 use Rattle.store.proofs.Pairs.{allowed-small}
-use Rattle.form.proofs.Meanings.{num-fits}
 use Rattle.book.proofs.Book.{segment-book, under-table}
 use Rattle.keys.specs.declared.Kind.the-variants.{Records}
 use Rattle.keys.specs.Items.{Item, Stands, itemSpan, recordSpan}

@@ -2,21 +2,21 @@
 use native.Mathlib.Omega.{arith}
 use borrow.Author.Needs.{needs}
 use Rattle.segment.specs.Tidy.{headerFields}
-use Rattle.fields.specs.Groups.{kindFields, countFields, frontFields, sectionFields, extentsFields, lastFields}
+use Rattle.fields.specs.Groups.{kindFields, countFields, frontFields, sectionFields, extentsOwnerFields, lastFields}
 use Rattle.form.proofs.Fields.{widths}
 use Rattle.fields.proofs.Packing.{groups-4}
 use Rattle.fields.proofs.put_header.Statement.{statement}
 use Rattle.fields.proofs.put_header.Tie as tie
 
 returns : tie.Need-returns
-unfolding headerFields kindFields countFields frontFields sectionFields extentsFields lastFields widths
+unfolding headerFields kindFields countFields frontFields sectionFields extentsOwnerFields lastFields widths
 returns c =
     let fourth = c .before .before in
     let third = fourth .before .before .before .before in
     let second = third .before .before .before .before in
     let first = second .before .before .before .before in
     let h = first .before .before .before .args .h in
-    groups-4 _ _ _ 0 (frontFields h) (sectionFields h) (first .put-front .ensures) (second .put-sections .ensures) _ (extentsFields h) (third .put-extents .ensures) _ (lastFields h) (fourth .put-last .ensures) (omega arith)
+    groups-4 _ _ _ 0 (frontFields h) (sectionFields h) (first .put-front .ensures) (second .put-sections .ensures) _ (extentsOwnerFields h) (third .put-extents-and-owner .ensures) _ (lastFields h) (fourth .put-last .ensures) (omega arith)
 
 pub put-header-spec : {M : Type 1} → statement M
 put-header-spec =
