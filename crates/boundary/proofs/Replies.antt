@@ -29,35 +29,44 @@ module _ (state v d : ℕ) (o : Source) (t at n : ℕ) where
   unfolding replied
   of-domain x e = rw e
 
+-- the numbers of a record are the answer's values, with zeros after them
+said-gone : (v d : ℕ) (o : Source) → replied 1 v d o 0 0 0 ≡ replyOf (Gone v d o)
+unfolding replied replyOf
+said-gone v d None = refl
+said-gone v d (Domain x) = refl
+
+said-present : (v d : ℕ) (o : Source) (t at n : ℕ) → replied 2 v d o t at n ≡ replyOf (Present v d o t at n)
+unfolding replied replyOf
+said-present v d None t at n = refl
+said-present v d (Domain x) t at n = refl
+
 module _ (f : Found) where
   pub reply-absent : f ≡ Absent → record { number = 0; place = 0; values = replicate 8 0 } ≡ replyOf f
   unfolding replyOf
   reply-absent e = rw e
 
   pub reply-gone : {v d : ℕ} {o : Source} {r : Reply} → f ≡ Gone v d o → r ≡ replied 1 v d o 0 0 0 → r ≡ replyOf f
-  unfolding replyOf
-  reply-gone e g = rw e g
+  reply-gone {v} {d} {o} e g = rw e (g ∙ said-gone v d o)
 
   pub reply-present : {v d : ℕ} {o : Source} {t at n : ℕ} {r : Reply} → f ≡ Present v d o t at n → r ≡ replied 2 v d o t at n → r ≡ replyOf f
-  unfolding replyOf
-  reply-present e g = rw e g
+  reply-present {v} {d} {o} {t} {at} {n} e g = rw e (g ∙ said-present v d o t at n)
 
   pub reply-refused : {x : Refusal} {n p : ℕ} → f ≡ Refused x → n ≡ numberOf x → p ≡ placeOf x
       → record { number = n; place = p; values = replicate 8 0 } ≡ replyOf f
   unfolding replyOf
   reply-refused e g h = rw e (rw (g, h))
 
-values-long : (state v d : ℕ) (o : Source) (t at n : ℕ) → length (replied state v d o t at n .values) ≡ 8
-unfolding replied
-values-long state v d None t at n = refl
-values-long state v d (Domain x) t at n = refl
+values-long : (f : Found) → length (replyOf f .values) ≡ 8
+unfolding replyOf
+values-long Absent = refl
+values-long (Gone v d None) = refl
+values-long (Gone v d (Domain x)) = refl
+values-long (Present v d None t at n) = refl
+values-long (Present v d (Domain x) t at n) = refl
+values-long (Refused r) = refl
 
 pub reply-long : {r : Reply} (f : Found) → r ≡ replyOf f → length (r .values) ≡ 8
-unfolding replyOf
-reply-long Absent e = ap (λ (a : Reply). length (a .values)) e
-reply-long (Gone v d o) e = ap (λ (a : Reply). length (a .values)) e ∙ values-long 1 v d o 0 0 0
-reply-long (Present v d o t at n) e = ap (λ (a : Reply). length (a .values)) e ∙ values-long 2 v d o t at n
-reply-long (Refused r) e = ap (λ (a : Reply). length (a .values)) e
+reply-long f e = ap (λ (a : Reply). length (a .values)) e ∙ values-long f
 
 -- a refused write or tidy, which leaves the length
 pub not-written : (w : Written) {x : Refusal} {n p l m : ℕ} → w ≡ NotWritten x → n ≡ numberOf x → p ≡ placeOf x → l ≡ m

@@ -9,13 +9,13 @@ use Prim.Native.Nat.{ℕ, _-_, _*_, _/_, _%_}
 use mathlib.Core.Bool.{Bool, cond, _&&_}
 use mathlib.Core.List.{List, [], _∷_, _++_, map}
 use lib.Dec.{leb, eqb}
-use lib.ListN.{length, replicate}
+use lib.ListN.{length, take, replicate}
 use Rattle.numbers.specs.Numbers.{numAt, put}
 use Rattle.rules.specs.declared.Refusal.the-variants.{Room}
 use Rattle.rules.specs.declared.Source.{Source}
 use Rattle.rules.specs.declared.Found.{Found}
 use Rattle.rules.specs.declared.Found.the-variants.{Absent, Gone, Present, Refused}
-use Rattle.rules.specs.Answers.{numberOf, placeOf, Answer, sourceValues}
+use Rattle.rules.specs.Answers.{numberOf, placeOf, Answer, sourceValues, foundAnswer}
 use Rattle.segment.specs.declared.header.Heading.{Heading}
 use Rattle.store.specs.declared.Table.{Table}
 use Rattle.segment.specs.Meaning.{countFrom}
@@ -50,20 +50,29 @@ told number place = record { number = number; place = place; values = [] }
 
 -- ---- look up
 
--- an answer by value: 0 or the refusal's number, its place, and eight numbers: state (0 absent, 1 gone, 2 present), visibility,
--- domain, imported, source, total, where its extents begin in the segment, and how many they are; what does not apply is 0
+-- absent 0, gone 1, present 2
+abbrev pub stateOf : Found → ℕ
+stateOf Absent = 0
+stateOf (Gone visibility domain source) = 1
+stateOf (Present visibility domain source total start count) = 2
+stateOf (Refused r) = 0
+
+-- look up's answer by value: its number, its place, and eight numbers: the state, the answer's values, and zeros. So they are state,
+-- visibility, domain, imported, source, total, where the extents begin in the segment, and how many they are; what does not apply is 0
+unfoldable pub replyOf : Found → Reply
+replyOf f = record {
+  number = foundAnswer f .number;
+  place = foundAnswer f .place;
+  values = take 8 (stateOf f ∷ foundAnswer f .values ++ replicate 7 0);
+}
+
+-- the reply of a record, number by number
 unfoldable pub replied : ℕ → ℕ → ℕ → Source → ℕ → ℕ → ℕ → Reply
 replied state visibility domain source total start count = record {
   number = 0;
   place = 0;
   values = state ∷ visibility ∷ domain ∷ sourceValues source ++ (total ∷ start ∷ count ∷ []);
 }
-
-unfoldable pub replyOf : Found → Reply
-replyOf Absent = record { number = 0; place = 0; values = replicate 8 0 }
-replyOf (Gone visibility domain source) = replied 1 visibility domain source 0 0 0
-replyOf (Present visibility domain source total start count) = replied 2 visibility domain source total start count
-replyOf (Refused r) = record { number = numberOf r; place = placeOf r; values = replicate 8 0 }
 
 pub record LookedUp : Type 0 where
   pub number : ℕ
