@@ -7,7 +7,7 @@ ghost use lib.ListN.{length};
 ghost use Rattle.segment.specs.Keys.{keyOf, eqList, lexLeq, sameKey};
 ghost use Rattle.keys.specs.Items.{recordSpan, entrySpan, Item, itemHash, itemSpan, itemDigest, itemKey};
 ghost use Rattle.keys.specs.Lex.{lex, itemLeq};
-use segment::record;
+use parts::record;
 use segment::record::Record;
 
 // The records that begin at a byte of the segment, or the entries of a flat list, nine numbers each.

@@ -12,11 +12,11 @@ ghost use Rattle.keys.specs.Items.{Item};
 ghost use Rattle.order.specs.Order.{Each};
 ghost use Rattle.lines.specs.Lines.{recordEntry, itemEntry, itemExtent, Held, itemTotal, Narrow, Counted, Line, recordOfEntry, measured};
 use keys::Kind;
-use segment::BlockOffset;
-use segment::FileOffset;
+use parts::BlockOffset;
+use parts::FileOffset;
+use parts::record;
 use segment::entry::Entry;
 use segment::extent::Extent;
-use segment::record;
 use segment::record::Record;
 
 // A field's number as a wider one, so that who reads many fields need not show of each that it fits.

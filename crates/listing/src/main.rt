@@ -7,7 +7,7 @@ ghost use Rattle.rules.specs.declared.Verdict.the-variants.{Accepted};
 ghost use Rattle.segment.specs.Check.{checked};
 use libc::STDIN_FILENO;
 use libc::STDOUT_FILENO;
-use text::Place;
+use places::Place;
 use text::Task;
 
 // The most that is listed. One byte more is read, to notice a longer input.
@@ -57,7 +57,7 @@ fn write_listing(pairs: &[u64], seg: &[u8], out: &mut [u8])
 {
     let mut place = Place::RecordCount;
     loop {
-        if text::is_done(place) {
+        if places::is_done(place) {
             return;
         }
         let stop = text::fill(pairs, seg, place, out);

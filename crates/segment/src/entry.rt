@@ -1,7 +1,7 @@
 // An entry, as write is lent it: nine numbers of a flat list, in the order of the fields.
 ghost use mathlib.Core.Path.{_≡_};
-ghost use Prim.Native.Nat.{_+_, _*_, _≤_};
-ghost use lib.ListN.{length};
+ghost use Prim.Native.Nat.{_+_, _*_, _≤_, _<_};
+ghost use lib.ListN.{length, getD};
 ghost use Rattle.segment.specs.Write.{entryNo};
 
 pub struct Entry {
@@ -24,17 +24,25 @@ impl Entry {
         requires { ⌜ 9 * k + 9 ≤ length (now list) ⌝ }
         ensures { λ r. ⌜ r ≡ entryNo (now (list .entry)) k ⌝ }
     {
-        let at = Self::SIZE * k;
         Self {
-            hash_id: list[at],
-            digest_start: list[at + 1],
-            digest_length: list[at + 2],
-            visibility: list[at + 3],
-            imported: list[at + 4],
-            source: list[at + 5],
-            gone: list[at + 6],
-            first_extent: list[at + 7],
-            extent_count: list[at + 8],
+            hash_id: number(list, k, 0),
+            digest_start: number(list, k, 1),
+            digest_length: number(list, k, 2),
+            visibility: number(list, k, 3),
+            imported: number(list, k, 4),
+            source: number(list, k, 5),
+            gone: number(list, k, 6),
+            first_extent: number(list, k, 7),
+            extent_count: number(list, k, 8),
         }
     }
+}
+
+// A number of entry k.
+fn number(list: &[u64], k: usize, field: usize) -> u64
+    requires { ⌜ 9 * k + 9 ≤ length (now list) ⌝ }
+    requires { ⌜ field < 9 ⌝ }
+    ensures { λ r. ⌜ r ≡ getD (now (list .entry)) (9 * k + field) 0 ⌝ }
+{
+    list[Entry::SIZE * k + field]
 }

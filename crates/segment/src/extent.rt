@@ -1,14 +1,9 @@
-// An extent: a slice of a block. Each function is told that a whole extent begins at `at`.
+// An extent: a slice of a block.
 ghost use mathlib.Core.Path.{_≡_};
 ghost use Prim.Native.Nat.{_+_, _≤_};
 ghost use lib.ListN.{length};
-ghost use Rattle.numbers.specs.Numbers.{numAt};
 ghost use Rattle.segment.specs.Format.{extentOf};
-use crate::BlockOffset;
-
-const OFFSET: usize = 8;
-
-const LENGTH: usize = 12;
+use parts::BlockOffset;
 
 pub struct Extent {
     pub block: u64,
@@ -25,30 +20,9 @@ impl Extent {
         ensures { λ r. ⌜ r ≡ extentOf (now (seg .entry)) at ⌝ }
     {
         Self {
-            block: block(seg, at),
-            offset: offset(seg, at),
-            length: length(seg, at),
+            block: parts::extent::block(seg, at),
+            offset: parts::extent::offset(seg, at),
+            length: parts::extent::length(seg, at),
         }
     }
-}
-
-pub fn block(seg: &[u8], at: usize) -> u64
-    requires { ⌜ at + 16 ≤ length (now seg) ⌝ }
-    ensures { λ r. ⌜ r ≡ numAt 8 (now (seg .entry)) at ⌝ }
-{
-    numbers::u64_at(seg, at)
-}
-
-pub fn offset(seg: &[u8], at: usize) -> BlockOffset
-    requires { ⌜ at + 16 ≤ length (now seg) ⌝ }
-    ensures { λ r. ⌜ r .0 ≡ numAt 4 (now (seg .entry)) (at + 8) ⌝ }
-{
-    BlockOffset(numbers::u32_at(seg, at + OFFSET))
-}
-
-pub fn length(seg: &[u8], at: usize) -> u32
-    requires { ⌜ at + 16 ≤ length (now seg) ⌝ }
-    ensures { λ r. ⌜ r ≡ numAt 4 (now (seg .entry)) (at + 12) ⌝ }
-{
-    numbers::u32_at(seg, at + LENGTH)
 }

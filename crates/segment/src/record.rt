@@ -1,34 +1,9 @@
-// A record, field by field as document 01 lists it. Each function is told that a whole record begins at `at`.
+// A record, field by field as document 01 lists it.
 ghost use mathlib.Core.Path.{_≡_};
 ghost use Prim.Native.Nat.{_+_, _≤_};
 ghost use lib.ListN.{length};
-ghost use Rattle.numbers.specs.Numbers.{numAt};
 ghost use Rattle.segment.specs.Format.{v3, recordOf};
-use crate::FileOffset;
-
-const DIGEST_LENGTH: usize = 4;
-
-const RESERVED: usize = 6;
-
-const DIGEST_OFFSET: usize = 8;
-
-const EXTENTS_OFFSET: usize = 16;
-
-const EXTENT_COUNT: usize = 24;
-
-const TOTAL_LENGTH: usize = 28;
-
-const DOMAIN: usize = 32;
-
-const VISIBILITY: usize = 36;
-
-const IMPORTED: usize = 37;
-
-const RESERVED_LAST: usize = 38;
-
-const SOURCE: usize = 40;
-
-const FLAGS: usize = 44;
+use parts::FileOffset;
 
 pub struct Record {
     pub hash_id: u32,
@@ -55,110 +30,19 @@ impl Record {
         ensures { λ r. ⌜ r ≡ recordOf v3 (now (seg .entry)) at ⌝ }
     {
         Self {
-            hash_id: hash_id(seg, at),
-            digest_length: digest_length(seg, at),
-            reserved: reserved(seg, at),
-            digest_offset: digest_offset(seg, at),
-            extents_offset: extents_offset(seg, at),
-            extent_count: extent_count(seg, at),
-            total_length: total_length(seg, at),
-            domain: domain(seg, at),
-            visibility: visibility(seg, at),
-            imported: imported(seg, at),
-            reserved_last: reserved_last(seg, at),
-            source: source(seg, at),
-            flags: flags(seg, at),
+            hash_id: parts::record::hash_id(seg, at),
+            digest_length: parts::record::digest_length(seg, at),
+            reserved: parts::record::reserved(seg, at),
+            digest_offset: parts::record::digest_offset(seg, at),
+            extents_offset: parts::record::extents_offset(seg, at),
+            extent_count: parts::record::extent_count(seg, at),
+            total_length: parts::record::total_length(seg, at),
+            domain: parts::record::domain(seg, at),
+            visibility: parts::record::visibility(seg, at),
+            imported: parts::record::imported(seg, at),
+            reserved_last: parts::record::reserved_last(seg, at),
+            source: parts::record::source(seg, at),
+            flags: parts::record::flags(seg, at),
         }
     }
-}
-
-pub fn hash_id(seg: &[u8], at: usize) -> u32
-    requires { ⌜ at + 48 ≤ length (now seg) ⌝ }
-    ensures { λ r. ⌜ r ≡ numAt 4 (now (seg .entry)) at ⌝ }
-{
-    numbers::u32_at(seg, at)
-}
-
-pub fn digest_length(seg: &[u8], at: usize) -> u16
-    requires { ⌜ at + 48 ≤ length (now seg) ⌝ }
-    ensures { λ r. ⌜ r ≡ numAt 2 (now (seg .entry)) (at + 4) ⌝ }
-{
-    numbers::u16_at(seg, at + DIGEST_LENGTH)
-}
-
-pub fn reserved(seg: &[u8], at: usize) -> u16
-    requires { ⌜ at + 48 ≤ length (now seg) ⌝ }
-    ensures { λ r. ⌜ r ≡ numAt 2 (now (seg .entry)) (at + 6) ⌝ }
-{
-    numbers::u16_at(seg, at + RESERVED)
-}
-
-pub fn digest_offset(seg: &[u8], at: usize) -> FileOffset
-    requires { ⌜ at + 48 ≤ length (now seg) ⌝ }
-    ensures { λ r. ⌜ r .0 ≡ numAt 8 (now (seg .entry)) (at + 8) ⌝ }
-{
-    FileOffset(numbers::u64_at(seg, at + DIGEST_OFFSET))
-}
-
-pub fn extents_offset(seg: &[u8], at: usize) -> FileOffset
-    requires { ⌜ at + 48 ≤ length (now seg) ⌝ }
-    ensures { λ r. ⌜ r .0 ≡ numAt 8 (now (seg .entry)) (at + 16) ⌝ }
-{
-    FileOffset(numbers::u64_at(seg, at + EXTENTS_OFFSET))
-}
-
-pub fn extent_count(seg: &[u8], at: usize) -> u32
-    requires { ⌜ at + 48 ≤ length (now seg) ⌝ }
-    ensures { λ r. ⌜ r ≡ numAt 4 (now (seg .entry)) (at + 24) ⌝ }
-{
-    numbers::u32_at(seg, at + EXTENT_COUNT)
-}
-
-pub fn total_length(seg: &[u8], at: usize) -> u64
-    requires { ⌜ at + 48 ≤ length (now seg) ⌝ }
-    ensures { λ r. ⌜ r ≡ numAt 4 (now (seg .entry)) (at + 28) ⌝ }
-{
-    numbers::u32_at(seg, at + TOTAL_LENGTH) as u64
-}
-
-pub fn domain(seg: &[u8], at: usize) -> u32
-    requires { ⌜ at + 48 ≤ length (now seg) ⌝ }
-    ensures { λ r. ⌜ r ≡ numAt 4 (now (seg .entry)) (at + 32) ⌝ }
-{
-    numbers::u32_at(seg, at + DOMAIN)
-}
-
-pub fn visibility(seg: &[u8], at: usize) -> u8
-    requires { ⌜ at + 48 ≤ length (now seg) ⌝ }
-    ensures { λ r. ⌜ r ≡ numAt 1 (now (seg .entry)) (at + 36) ⌝ }
-{
-    numbers::u8_at(seg, at + VISIBILITY)
-}
-
-pub fn imported(seg: &[u8], at: usize) -> u8
-    requires { ⌜ at + 48 ≤ length (now seg) ⌝ }
-    ensures { λ r. ⌜ r ≡ numAt 1 (now (seg .entry)) (at + 37) ⌝ }
-{
-    numbers::u8_at(seg, at + IMPORTED)
-}
-
-pub fn reserved_last(seg: &[u8], at: usize) -> u16
-    requires { ⌜ at + 48 ≤ length (now seg) ⌝ }
-    ensures { λ r. ⌜ r ≡ numAt 2 (now (seg .entry)) (at + 38) ⌝ }
-{
-    numbers::u16_at(seg, at + RESERVED_LAST)
-}
-
-pub fn source(seg: &[u8], at: usize) -> u32
-    requires { ⌜ at + 48 ≤ length (now seg) ⌝ }
-    ensures { λ r. ⌜ r ≡ numAt 4 (now (seg .entry)) (at + 40) ⌝ }
-{
-    numbers::u32_at(seg, at + SOURCE)
-}
-
-pub fn flags(seg: &[u8], at: usize) -> u32
-    requires { ⌜ at + 48 ≤ length (now seg) ⌝ }
-    ensures { λ r. ⌜ r ≡ numAt 4 (now (seg .entry)) (at + 44) ⌝ }
-{
-    numbers::u32_at(seg, at + FLAGS)
 }

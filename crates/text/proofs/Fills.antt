@@ -10,11 +10,11 @@ use Rattle.numbers.proofs.Laws.{length-put}
 use Rattle.segment.specs.Meaning.{Meaning}
 use Rattle.digits.specs.Digits.{Appended}
 use Rattle.digits.proofs.Laws.{appended, retold, nothing}
-use Rattle.text.specs.declared.Place.{Place}
-use Rattle.text.specs.declared.Stop.{Stop}
-use Rattle.text.specs.Pieces.{Piece, piece, pieceAt, isDone, longestLine, behind, piecesFrom, filled}
-use Rattle.text.specs.Told.{Stopped}
-use Rattle.text.proofs.Pieces.{step, filled-full, filled-done, filled-more}
+use Rattle.places.specs.declared.Place.{Place}
+use Rattle.pieces.specs.declared.Stop.{Stop}
+use Rattle.places.specs.Pieces.{Piece, piece, pieceAt, isDone, longestLine, behind, piecesFrom, filled}
+use Rattle.pieces.specs.Told.{Stopped}
+use Rattle.places.proofs.Pieces.{step, filled-full, filled-done, filled-more}
 
 pub record Filling (m : Meaning) (place : Place) (before out : List ℕ) (next : Place) (end : ℕ) : Type 0 where
   pub done : List ℕ

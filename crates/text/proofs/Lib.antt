@@ -1,6 +1,4 @@
-pub mod Rows
-pub mod Arms
-pub mod Pieces
+pub mod Checked
 pub mod Fills
 pub mod Whole
 pub mod Starts

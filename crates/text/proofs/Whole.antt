@@ -30,9 +30,9 @@ use Rattle.columns.specs.Listing.{
   mostListed,
   written,
 }
-use Rattle.text.specs.declared.Place.the-variants.{RecordCount}
-use Rattle.text.specs.Pieces.{longestLine, piecesFrom, fills}
-use Rattle.text.proofs.Pieces.{listing-in-fills}
+use Rattle.places.specs.declared.Place.the-variants.{RecordCount}
+use Rattle.places.specs.Pieces.{longestLine, piecesFrom, fills}
+use Rattle.places.proofs.Pieces.{listing-in-fills}
 
 module _ (pairs s : List ℕ) where
   pub listed-refused : (r : Refusal) → checked pairs s ≡ Refused r → listed pairs s ≡ refusalLine r

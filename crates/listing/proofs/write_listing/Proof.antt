@@ -9,9 +9,9 @@ use lib.Seq.{length-take-le}
 use Rattle.segment.specs.Format.{v3}
 use Rattle.segment.specs.Meaning.{Meaning, meaningOf}
 use Rattle.digits.proofs.Laws.{stop-within}
-use Rattle.text.specs.declared.Place.{Place}
-use Rattle.text.specs.Pieces.{isDone, longestLine, piecesFrom, filled}
-use Rattle.text.proofs.Pieces.{filled-on}
+use Rattle.places.specs.declared.Place.{Place}
+use Rattle.places.specs.Pieces.{isDone, longestLine, piecesFrom, filled}
+use Rattle.places.proofs.Pieces.{filled-on}
 use Rattle.listing.proofs.write_listing.Statement.{statement}
 use Rattle.listing.proofs.write_listing.Tie as tie
 

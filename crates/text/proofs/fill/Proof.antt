@@ -4,8 +4,8 @@ use borrow.Author.Needs.{needs}
 use Rattle.numbers.specs.Numbers.{Bytes}
 use Rattle.segment.specs.Format.{v3}
 use Rattle.segment.specs.Meaning.{meaningOf}
-use Rattle.text.specs.Pieces.{piecesFrom}
-use Rattle.text.proofs.Rows.{header-fits, listable}
+use Rattle.places.specs.Pieces.{piecesFrom}
+use Rattle.text.proofs.Checked.{header-fits, listable}
 use Rattle.text.proofs.Fills.{Filling, filling-start, filling-more, filling-less, filling-done, filling-full}
 use Rattle.text.proofs.fill.Statement.{statement}
 use Rattle.text.proofs.fill.Tie as tie

@@ -13,5 +13,5 @@ start-spec =
     (λ c κs. search needs)
     (λ c. search needs)
     (λ c. let told = c .before .before .before in let answer = told .before .before .check in
-    starts-refused _ _ (answer .result) (answer .ensures) (told .r .given .0 .0) _ _ _ (cc) (c .put-refusal .ensures))
-    (λ c. let answer = c .before .before .check in starts-listed _ _ (answer .result) (answer .ensures) _ (cc)))
+    starts-refused _ _ (answer .result) (answer .ensures) (told .r .given .0 .0) _ _ _ (told .r .given .1) (c .put-refusal .ensures))
+    (λ c. let answer = c .before .before .check in starts-listed _ _ (answer .result) (answer .ensures) _ (c .enum-told .given .1)))

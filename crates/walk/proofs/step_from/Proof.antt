@@ -10,7 +10,7 @@ use Rattle.segment.specs.Walk.{stepAnswer, stepOf}
 use Rattle.segment.proofs.step.Step as S
 use Rattle.segment.proofs.step.Step.Laws as S′
 use Rattle.walk.specs.declared.Walker.{Walker}
-use Rattle.walk.proofs.Stepping.{Taken}
+use Rattle.walk.proofs.Walking.{Taken}
 use Rattle.walk.proofs.Walker as T
 use Rattle.walk.proofs.Walker.Laws as T′
 use Rattle.walk.proofs.next as next

@@ -1,5 +1,4 @@
 -- `segment::extent::Extent::at` meets its contract: field by field.
-use borrow.Author.Needs.{needs}
 use Rattle.segment.specs.Format.{extentOf}
 use Rattle.segment.proofs.extent.Extent.at.Statement.{statement}
 use Rattle.segment.proofs.extent.Extent.at.Tie as tie
@@ -20,7 +19,7 @@ pub at-spec : {M : Type 1} → statement M
 at-spec =
     tie.close
     (tie.spec
-    (λ c κs. search needs)
-    (λ c κs. search needs)
-    (λ c κs. search needs)
+    (λ c κs. c .before .pre)
+    (λ c κs. c .before .before .pre)
+    (λ c κs. c .before .before .before .pre)
     returns)
