@@ -18,7 +18,7 @@ use store::Table;
 // A segment's length at the least and at the most: a header and a footer; one GiB.
 const LEAST: usize = Header::SIZE + Footer::SIZE;
 
-const LIMIT: usize = 1073741824;
+const LIMIT: usize = segment::LIMIT as usize;
 
 // Records, visibility and duplicates, of a segment whose header, layout and checksum are right.
 fn check_contents(pairs: &[u64], seg: &[u8], h: Header) -> Verdict

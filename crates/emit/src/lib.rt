@@ -5,7 +5,6 @@ ghost use Prim.Native.Nat.{_+_, _≤_};
 ghost use lib.ListN.{length};
 ghost use Rattle.numbers.specs.Numbers.{put};
 ghost use Rattle.segment.specs.Format.{v3, recordsOffset};
-ghost use Rattle.segment.specs.Check.{bloomPlace};
 ghost use Rattle.segment.specs.Tidy.{lacking, formHeader, formOf};
 ghost use Rattle.lines.specs.Lines.{itemRows, Lines};
 ghost use Rattle.emit.specs.Emit.{Moderate, headerFor, Plan, sectionsUnder, bodyUnder, Wrote};
@@ -16,28 +15,10 @@ use rules::Refusal;
 use rules::Written;
 use segment::extent::Extent;
 use segment::footer::Footer;
+use segment::header;
 use segment::header::Header;
 use segment::header::Heading;
 use segment::record::Record;
-
-// ASLIDX03
-const MAGIC: u64 = 0x3330_5844_494C_5341;
-
-const VERSION: u16 = 3;
-
-// The sizes of the four kinds, as wide as the header's numbers; and the size that the header states.
-const HEADER: u64 = Header::SIZE as u64;
-
-const STATED: u32 = Header::SIZE as u32;
-
-const RECORD: u64 = Record::SIZE as u64;
-
-const EXTENT: u64 = Extent::SIZE as u64;
-
-const FOOTER: u64 = Footer::SIZE as u64;
-
-// A segment's length at the most: one GiB.
-const LIMIT: u64 = 1073741824;
 
 // A number of bytes with the zeros that it lacks to a multiple of 8.
 fn padded(n: u64) -> u64
@@ -47,30 +28,20 @@ fn padded(n: u64) -> u64
     n + (8 - n % 8) % 8
 }
 
-// Where the bloom bytes begin: nowhere, if there are none.
-fn bloom_place(size: u64) -> u64
-    ensures { λ r. ⌜ r ≡ bloomPlace size ⌝ }
-{
-    if size == 0 {
-        return 0;
-    }
-    HEADER
-}
-
 // The header over so many bloom bytes and records that come to some sizes.
 fn header_for(t: Heading, bloom: u64, count: u64, s: Sizes) -> Header
     requires { ⌜ Moderate bloom count s ⌝ }
     ensures { λ r. ⌜ r ≡ headerFor t bloom count s ⌝ }
 {
-    let records = HEADER + bloom;
-    let digests = records + RECORD * count;
+    let records = Header::LONG + bloom;
+    let digests = records + Record::LONG * count;
     let size = padded(s.digests);
-    let place = bloom_place(bloom);
+    let place = header::bloom_place(bloom);
     Header {
-        magic: MAGIC,
-        version: VERSION,
+        magic: Header::MAGIC,
+        version: Header::VERSION,
         shard: t.shard,
-        header_size: STATED,
+        header_size: Header::STATED,
         snapshot_min: t.snapshot_min,
         snapshot_max: t.snapshot_max,
         record_count: count,
@@ -181,13 +152,13 @@ pub fn emit(
     ensures { λ r. ⌜ Wrote (formOf v3 t (now (bloom .entry)) (itemRows kind (now (bytes .entry)) (now (list .entry)) (now (extents .entry)) (now (numbers .entry)))) (now (out .entry)) (now (out .exit)) r ⌝ }
 {
     let size = bloom.len() as u64;
-    if LIMIT < size {
+    if segment::LIMIT < size {
         return Written::Refused(Refusal::Large);
     }
     let s = lines::measure(kind, bytes, list, numbers);
     let h = header_for(t, size, numbers.len() as u64, s);
-    let n = h.extents_offset.0 + EXTENT * h.extent_count + FOOTER;
-    if LIMIT < n {
+    let n = h.extents_offset.0 + Extent::LONG * h.extent_count + Footer::LONG;
+    if segment::LIMIT < n {
         return Written::Refused(Refusal::Large);
     }
     if (out.len() as u64) < n {

@@ -1,9 +1,9 @@
 -- The rows of an entry's tables, 8, 9 and 10, and the sum over its extents. Each premise is as the code's test or call leaves it.
 -- Assumes nothing.
-use Prim.Native.Nat.{ℕ, suc, _+_, _-_, _*_, _≤_, _<_}
+use Prim.Native.Nat.{ℕ, _+_, _-_, _*_, _≤_, _<_}
 use mathlib.Core.Path.{_≡_, sym, _∙_}
 use mathlib.Core.Bool.{Bool, true, false, not, _&&_}
-use mathlib.Core.List.{List, _∷_}
+use mathlib.Core.List.{List}
 use native.Mathlib.Omega.{arith}
 use borrow.Author.Tests.{ltb-true, not-true, not-false}
 use lib.Dec.{ltb, leb}
@@ -17,6 +17,7 @@ use Rattle.segment.specs.Format.{v3}
 use Rattle.store.specs.Table.{allows}
 use Rattle.segment.specs.Check.{sumLengths}
 use Rattle.segment.specs.Write.{listedExtent, extentsFrom, entryDigest, entryPlaces, allListedFit, entryTotal}
+use Rattle.segment.proofs.Extents.{next-listed}
 
 -- ---- 8
 
@@ -103,14 +104,6 @@ add-start xs first count =
     let f : count - 0 ≡ count = omega arith in
     record { within = omega arith; fits = rw (e, f); sums = rw (e, f) (omega arith); small = omega arith }
 
-next-extent : (xs : List ℕ) (first count i : ℕ) → i < count
-    → left xs first count i ≡ listedExtent xs (first + i) ∷ left xs first count (i + 1)
-unfolding extentsFrom
-next-extent xs first count i h =
-    let e : count - i ≡ suc (count - (i + 1)) = omega arith in
-    let f : first + (i + 1) ≡ suc (first + i) = omega arith in
-    rw (e, f)
-
 -- the two numbers of a listed extent that the rules speak of
 abbrev offsetNo : List ℕ → ℕ → ℕ
 offsetNo xs j = getD xs (3 * j + 1) 0
@@ -123,12 +116,12 @@ module _ (xs : List ℕ) (first count i sum : ℕ) (v : Adding xs first count i 
   -- the extent at hand, and the rest of them
   fits-next : (b : Bool) → t ≡ b → allListedFit (extentsFrom xs first count) ≡ (b && allListedFit (left xs first count (i + 1)))
   unfolding allListedFit listedExtent
-  fits-next b f = v .fits ∙ rw (next-extent xs first count i h, sym r ∙ f)
+  fits-next b f = v .fits ∙ rw (next-listed xs first count i h, sym r ∙ f)
 
   sums-next : sumLengths (extentsFrom xs first count) ≡ sum + sizeNo xs (first + i) + sumLengths (left xs first count (i + 1))
   unfolding sumLengths listedExtent
   sums-next =
-      let e : sumLengths (left xs first count i) ≡ sizeNo xs (first + i) + sumLengths (left xs first count (i + 1)) = rw (next-extent xs first count i h) in
+      let e : sumLengths (left xs first count i) ≡ sizeNo xs (first + i) + sumLengths (left xs first count (i + 1)) = rw (next-listed xs first count i h) in
       v .sums ∙ rw e (omega arith)
 
   pub total-past : (k : ℕ) → not t ≡ true → Refused (Total k) ≡ entryTotal v3 (extentsFrom xs first count) k

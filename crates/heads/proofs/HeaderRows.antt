@@ -70,12 +70,6 @@ same-test x y z w f g =
     (λ e. e ∙ sym (eq-eqb z w (f (eqb-true x y e))))
     (λ e. e ∙ sym (ne-eqb z w (λ q. eqb-false x y e (g q))))
 
-pub bloom-none : (size : ℕ) → size ≡ 0 → 0 ≡ bloomPlace size
-bloom-none size e = simp tests
-
-pub bloom-some : (size : ℕ) → (size ≡ 0 → ⊥) → 112 ≡ bloomPlace size
-bloom-some size e = simp tests
-
 pub below-part : (whole a b : ℕ) → whole < a → false ≡ eqb whole (a + b)
 below-part whole a b h = sym (ne-eqb whole (a + b) (λ e. omega arith))
 

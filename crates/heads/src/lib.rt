@@ -4,40 +4,27 @@ ghost use Prim.Native.Nat.{_+_, _*_, _≤_};
 ghost use lib.Dec.{eqb};
 ghost use lib.ListN.{length};
 ghost use Rattle.segment.specs.Format.{v3};
-ghost use Rattle.segment.specs.Check.{headVerdict, bloomPlace, layoutVerdict, checksumVerdict};
+ghost use Rattle.segment.specs.Check.{headVerdict, layoutVerdict, checksumVerdict};
 ghost use Rattle.heads.specs.Told.{headerRules};
 use frame::footer;
 use rules::Refusal;
 use rules::Verdict;
 use segment::extent::Extent;
 use segment::footer::Footer;
+use segment::header;
 use segment::header::Header;
 use segment::record::Record;
-
-// ASLIDX03
-const MAGIC: u64 = 0x3330_5844_494C_5341;
-
-// The sizes of the four kinds, as wide as the header's numbers; and the size that the header states.
-const HEADER: u64 = Header::SIZE as u64;
-
-const STATED: u32 = Header::SIZE as u32;
-
-const RECORD: u64 = Record::SIZE as u64;
-
-const EXTENT: u64 = Extent::SIZE as u64;
-
-const FOOTER: u64 = Footer::SIZE as u64;
 
 fn check_head(h: Header) -> Verdict
     ensures { λ r. ⌜ r ≡ headVerdict v3 h ⌝ }
 {
-    if h.magic != MAGIC {
+    if h.magic != Header::MAGIC {
         return Verdict::Refused(Refusal::Magic);
     }
-    if h.version != 3 {
+    if h.version != Header::VERSION {
         return Verdict::Refused(Refusal::Version);
     }
-    if h.header_size != STATED {
+    if h.header_size != Header::STATED {
         return Verdict::Refused(Refusal::Header);
     }
     if h.federation != 0 {
@@ -55,12 +42,6 @@ fn check_head(h: Header) -> Verdict
     Verdict::Accepted
 }
 
-fn bloom_place(size: u64) -> u64
-    ensures { λ r. ⌜ r ≡ bloomPlace size ⌝ }
-{
-    if size == 0 { 0 } else { HEADER }
-}
-
 // Whether whole is a + b, over whole numbers.
 fn is_sum(whole: u64, a: u64, b: u64) -> bool
     ensures { λ r. ⌜ r ≡ eqb whole (a + b) ⌝ }
@@ -75,24 +56,24 @@ fn is_sum(whole: u64, a: u64, b: u64) -> bool
 fn ends_so(n: u64, extents: u64, count: u64) -> bool
     ensures { λ r. ⌜ r ≡ eqb n (extents + 16 * count + 24) ⌝ }
 {
-    if n < FOOTER {
+    if n < Footer::LONG {
         return false;
     }
-    let body = n - FOOTER;
+    let body = n - Footer::LONG;
     if body < extents {
         return false;
     }
     let rest = body - extents;
-    if rest % EXTENT != 0 {
+    if rest % Extent::LONG != 0 {
         return false;
     }
-    rest / EXTENT == count
+    rest / Extent::LONG == count
 }
 
 fn check_layout(h: Header, n: u64) -> Verdict
     ensures { λ r. ⌜ r ≡ layoutVerdict v3 h n ⌝ }
 {
-    if h.bloom_offset.0 != bloom_place(h.bloom_size) {
+    if h.bloom_offset.0 != header::bloom_place(h.bloom_size) {
         return Verdict::Refused(Refusal::Layout);
     }
     if h.bloom_size % 8 != 0 {
@@ -101,13 +82,13 @@ fn check_layout(h: Header, n: u64) -> Verdict
     if 65536 < h.record_count {
         return Verdict::Refused(Refusal::Layout);
     }
-    if !is_sum(h.records_offset.0, HEADER, h.bloom_size) {
+    if !is_sum(h.records_offset.0, Header::LONG, h.bloom_size) {
         return Verdict::Refused(Refusal::Layout);
     }
     if !is_sum(
         h.digests_offset.0,
         h.records_offset.0,
-        RECORD * h.record_count,
+        Record::LONG * h.record_count,
     ) {
         return Verdict::Refused(Refusal::Layout);
     }

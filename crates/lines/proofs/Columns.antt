@@ -1,6 +1,6 @@
 -- What each kind of source says of an item: where it stands, its nine numbers, its extents and its total.
 -- Assumes nothing.
-use Prim.Native.Nat.{ℕ, suc, _+_, _-_, _*_, _%_, _^_, _≤_, _<_}
+use Prim.Native.Nat.{ℕ, _+_, _-_, _*_, _%_, _^_, _≤_, _<_}
 use mathlib.Core.Path.{_≡_, sym, subst, _∙_}
 use mathlib.Core.List.{List}
 use native.Mathlib.Omega.{arith}
@@ -14,6 +14,7 @@ use Rattle.segment.specs.Format.{v3, inBlock, recordOf, extentOf}
 use Rattle.segment.specs.Check.{sumLengths}
 use Rattle.segment.specs.Tidy.{packed, extentFields}
 use Rattle.segment.specs.Write.{entryNo, listedExtent, extentsFrom}
+use Rattle.segment.proofs.Extents.{next-listed}
 use Rattle.keys.specs.declared.Kind.{Kind}
 use Rattle.keys.specs.declared.Kind.the-variants.{Records, Entries}
 use Rattle.lines.specs.Lines.{recordEntry, itemEntry, itemExtent, Held, itemTotal, Line}
@@ -72,11 +73,8 @@ adding-start xs first count =
 
 module _ (xs : List ℕ) (first count j sum : ℕ) (a : Adding xs first count j sum) where
   one-left : j < count → sumLengths (extentsFrom xs (first + j) (count - j)) ≡ getD xs (3 * (first + j) + 2) 0 + sumLengths (extentsFrom xs (first + (j + 1)) (count - (j + 1)))
-  unfolding sumLengths extentsFrom listedExtent
-  one-left h =
-      let e : count - j ≡ suc (count - (j + 1)) = omega arith in
-      let f : first + (j + 1) ≡ suc (first + j) = omega arith in
-      rw (e, f)
+  unfolding sumLengths listedExtent
+  one-left h = rw (next-listed xs first count j h)
 
   pub adding-fits : j < count → sumLengths (extentsFrom xs first count) < 18446744073709551616 → sum + getD xs (3 * (first + j) + 2) 0 < 18446744073709551616
   adding-fits h l = omega (arith, a .same, one-left h)

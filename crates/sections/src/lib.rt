@@ -15,8 +15,6 @@ use segment::extent::Extent;
 use segment::header::Header;
 use segment::record::Record;
 
-const EXTENT: u64 = Extent::SIZE as u64;
-
 // A run of bytes, copied to a place.
 pub fn copy_bytes(from: &[u8], at: usize, out: &mut [u8])
     requires { ⌜ at + length (now from) ≤ length (now out) ⌝ }
@@ -65,7 +63,7 @@ pub fn put_records(
         let r = lines::record_for(e, total, h.domain, digest_at, extents_at);
         fields::put_record(r, Record::SIZE * k, out);
         digest_at += e.digest_length;
-        extents_at += EXTENT * e.extent_count;
+        extents_at += Extent::LONG * e.extent_count;
         k += 1;
     }
 }

@@ -14,6 +14,9 @@ pub struct Extent {
 impl Extent {
     pub const SIZE: usize = 16;
 
+    // Its size as wide as the header's numbers.
+    pub const LONG: u64 = Extent::SIZE as u64;
+
     // The extent that begins at a place.
     pub fn at(seg: &[u8], at: usize) -> Self
         requires { ⌜ at + 16 ≤ length (now seg) ⌝ }

@@ -13,6 +13,9 @@ pub struct Footer {
 impl Footer {
     pub const SIZE: usize = 24;
 
+    // Its size as wide as the header's numbers.
+    pub const LONG: u64 = Footer::SIZE as u64;
+
     // The footer that begins at a place.
     pub fn at(seg: &[u8], at: usize) -> Self
         requires { ⌜ at + 24 ≤ length (now seg) ⌝ }

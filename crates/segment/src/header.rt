@@ -3,6 +3,7 @@ ghost use mathlib.Core.Path.{_≡_};
 ghost use Prim.Native.Nat.{_≤_};
 ghost use lib.ListN.{length};
 ghost use Rattle.segment.specs.Format.{headerOf};
+ghost use Rattle.segment.specs.Check.{bloomPlace};
 use parts::FileOffset;
 
 pub struct Header {
@@ -40,6 +41,16 @@ pub struct Heading {
 impl Header {
     pub const SIZE: usize = 112;
 
+    // Its size as wide as the header's numbers, and as the header states it.
+    pub const LONG: u64 = Header::SIZE as u64;
+
+    pub const STATED: u32 = Header::SIZE as u32;
+
+    // ASLIDX03
+    pub const MAGIC: u64 = 0x3330_5844_494C_5341;
+
+    pub const VERSION: u16 = 3;
+
     // The segment's header.
     pub fn of(seg: &[u8]) -> Self
         requires { ⌜ 112 ≤ length (now seg) ⌝ }
@@ -67,4 +78,14 @@ impl Header {
             flags: frame::header::flags(seg),
         }
     }
+}
+
+// Where the bloom bytes begin: nowhere, if there are none.
+pub fn bloom_place(size: u64) -> u64
+    ensures { λ r. ⌜ r ≡ bloomPlace size ⌝ }
+{
+    if size == 0 {
+        return 0;
+    }
+    Header::LONG
 }

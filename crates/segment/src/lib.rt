@@ -6,3 +6,6 @@ pub mod footer;
 pub mod header;
 pub mod record;
 pub mod step;
+
+// A segment's length at the most: one GiB.
+pub const LIMIT: u64 = 1073741824;

@@ -24,6 +24,9 @@ pub struct Record {
 impl Record {
     pub const SIZE: usize = 48;
 
+    // Its size as wide as the header's numbers.
+    pub const LONG: u64 = Record::SIZE as u64;
+
     // The record that begins at a place.
     pub fn at(seg: &[u8], at: usize) -> Self
         requires { ⌜ at + 48 ≤ length (now seg) ⌝ }

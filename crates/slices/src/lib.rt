@@ -14,8 +14,6 @@ use segment::extent::Extent;
 use segment::header::Header;
 use segment::record::Record;
 
-const EXTENT: u64 = Extent::SIZE as u64;
-
 // The lengths of some extents added up, or that one of them passes the end of its block.
 pub enum Sum {
     Of(u64),
@@ -63,14 +61,14 @@ fn check_extents(seg: &[u8], h: Header, r: Record, k: usize) -> Verdict
     if place < start {
         return Verdict::Refused(Refusal::Extents(k as u64));
     }
-    if (place - start) % EXTENT != 0 {
+    if (place - start) % Extent::LONG != 0 {
         return Verdict::Refused(Refusal::Extents(k as u64));
     }
-    let end = start + EXTENT * h.extent_count;
+    let end = start + Extent::LONG * h.extent_count;
     if end < place {
         return Verdict::Refused(Refusal::Extents(k as u64));
     }
-    if end - place < EXTENT * count {
+    if end - place < Extent::LONG * count {
         return Verdict::Refused(Refusal::Extents(k as u64));
     }
     Verdict::Accepted
