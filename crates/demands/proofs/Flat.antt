@@ -40,7 +40,7 @@ module _ {A : Type 0} (w : ℕ) (numbers : A → List ℕ) (long : (x : A) → l
       ap₂ (λ (y : A) (ys : List A). y ∷ ys) (one k x (has-left (numbers x) (flat numbers xs) h)) (flat-read s read one (suc k) xs next)
 
 -- the number at a place of what stands there
-stands-at : {s : List ℕ} {at : ℕ} (xs : List ℕ) (i : ℕ) → HasAt s at xs → i < length xs → getD s (at + i) 0 ≡ getD xs i 0
+pub stands-at : {s : List ℕ} {at : ℕ} (xs : List ℕ) (i : ℕ) → HasAt s at xs → i < length xs → getD s (at + i) 0 ≡ getD xs i 0
 stands-at {s} {at} xs i h l =
     sym (getD-drop at s i 0) ∙ ap (λ (ys : List ℕ). getD ys i 0) (h .here) ∙ List·getD-append xs (h .rest) 0 i l
 

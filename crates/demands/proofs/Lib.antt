@@ -1,6 +1,7 @@
 pub mod Files
 pub mod PCases
 pub mod Rulebook
+pub mod InNumbers
 pub mod Stops
 pub mod Refusals
 pub mod LookUps
@@ -11,3 +12,4 @@ pub mod Writing
 pub mod Flat
 pub mod Asking
 pub mod Answering
+pub mod Demands

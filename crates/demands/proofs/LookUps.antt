@@ -14,7 +14,7 @@ use Rattle.rules.specs.declared.Verdict.{Verdict}
 use Rattle.rules.specs.declared.Verdict.the-variants.{Accepted, Refused as Stopped}
 use Rattle.rules.specs.declared.Found.{Found}
 use Rattle.rules.specs.declared.Found.the-variants.{Absent, Refused as NotFound}
-use Rattle.rules.specs.Answers.{checkAnswer, foundAnswer}
+use Rattle.rules.specs.Answers.{refused, checkAnswer, foundAnswer}
 use Rattle.rules.specs.Rules.{after}
 use Rattle.rules.proofs.Order.{by-test, then-accepted}
 use Rattle.rules.proofs.Settled.{check-settled, found-settled}
@@ -31,6 +31,7 @@ use Rattle.demands.specs.LookUps.{HasKey, Finds, LookGiven, by-table, by
 use Rattle.demands.specs.Refusals.{Given}
 use Rattle.book.proofs.Book.{under-table}
 use Rattle.demands.proofs.Rulebook.{answer-is, accepts-iff}
+use Rattle.demands.proofs.InNumbers.{in-numbers}
 use Rattle.demands.proofs.Refusals.{refused-iff}
 
 -- a segment that check accepts: the table is good, and 1 to 12 hold
@@ -142,6 +143,11 @@ module _ (pairs s : List ℕ) (hash : ℕ) (digest : List ℕ) where
   pub look-refused-iff : (r : Refusal) → lookedUp pairs s hash digest ≡ NotFound r ↔ LookGiven pairs s hash digest r
   unfolding looks
   look-refused-iff r = (given r, refuses r)
+
+  -- in document 01's numbers
+  pub look-refused-numbers : (r : Refusal) → lookUpOf pairs s hash digest ≡ refused r ↔ LookGiven pairs s hash digest r
+  unfolding lookUpOf
+  look-refused-numbers = in-numbers foundAnswer NotFound found-settled (λ r. refl) (lookedUp pairs s hash digest) look-refused-iff
 
 -- ---- two answers that one promise allows are equal
 

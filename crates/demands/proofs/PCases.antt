@@ -1,14 +1,15 @@
 -- The ten P cases of document 01 hold of the written meanings. Assumes nothing.
 use Prim.Native.Nat.{ℕ, _+_, _≤_}
-use mathlib.Core.Path.{_≡_, refl, _∙_}
+use mathlib.Core.Path.{_≡_, refl, sym, ap, _∙_}
 use mathlib.Core.Bool.{Bool, true, false}
 use mathlib.Core.List.{List, [], _∷_}
 use native.Mathlib.Omega.{arith}
 use borrow.Author.Tests.{eq-eqb, le-leb}
-use lib.Dec.{eqb, leb}
+use lib.Dec.{eqb, leb, lit<}
 use lib.ListN.{length, take, drop, length-drop}
 use lib.Seq.{length-take-le}
 use Rattle.numbers.specs.Numbers.{le, numAt, bytesOf}
+use Rattle.crc64.specs.Crc.{crc}
 use Rattle.rules.specs.declared.Refusal.the-variants.{Size, Layout, Total, Extents, Visibility}
 use Rattle.rules.specs.declared.Source.the-variants.{None}
 use Rattle.rules.specs.declared.Verdict.{Verdict}
@@ -21,7 +22,23 @@ use Rattle.segment.specs.declared.header.Header.{Header}
 use Rattle.segment.specs.declared.header.Heading.{Heading}
 use Rattle.segment.specs.declared.record.Record.{Record}
 use Rattle.segment.specs.declared.extent.Extent.{Extent}
-use Rattle.segment.specs.Format.{v3, headerOf, recordNo, extentOf, extentsAt, inBlock, recordCount, bloomOffset, bloomSize, recordsOffset}
+use Rattle.segment.specs.Format.{
+  v3,
+  headerOf,
+  footerOf,
+  recordNo,
+  extentOf,
+  extentsAt,
+  inBlock,
+  recordCount,
+  bloomOffset,
+  bloomSize,
+  recordsOffset,
+  digestsOffset,
+  digestsSize,
+  extentsOffset,
+  extentCount,
+}
 use Rattle.store.specs.Table.{goodTable, allows, tableVerdict}
 use Rattle.segment.specs.Keys.{keyOf, lexLeq, insert, sortBy}
 use Rattle.segment.specs.Check.{
@@ -38,6 +55,7 @@ use Rattle.segment.specs.Check.{
   liveTotal,
   totalVerdict,
   recordRules,
+  visibilityNo,
   digestIn,
   keyNo,
   segmentRules,
@@ -45,10 +63,21 @@ use Rattle.segment.specs.Check.{
   checked,
   checkOf,
 }
-use Rattle.segment.specs.Tidy.{tidyForm, formOf, formBody, formHeader, packed, headerFields, recordFields, recordFor, recordsBytes, digestBytes, digestSection, extentListBytes, extentBytes, extentFields, footerFields}
+use Rattle.segment.specs.Meets.{LayoutMeets, ChecksumMeets, Meets}
+use Rattle.segment.specs.Meaning.{headingOf}
+use Rattle.segment.specs.Tidy.{tidyForm, formOf, formBody, formHeader, packed, headerFields, recordFields, recordFor, recordsBytes, digestBytes, digestSection, extentListBytes, extentBytes, extentFields, footerFields, extentTotal, largestVisibility}
 use Rattle.segment.specs.LookUp.{keyVerdict, recordFound, foundOver, foundNo, foundIn, foundUnder, lookedUp, lookUpOf}
 use Rattle.keys.proofs.Equal.{eqList-self}
+use Rattle.order.specs.Order.{Each}
+use Rattle.form.proofs.Places.{has-left, has-number}
+use Rattle.form.proofs.Shapes.{v3-shaped}
+use Rattle.form.proofs.Checksum.{body-bytes, crc-fits}
+use Rattle.form.proofs.Sections.{Parts, parts}
 use Rattle.demands.specs.PCases.{
+  accepted,
+  absent,
+  Lies,
+  tidyOfRows,
   headerWith,
   recordWith,
   Stored,
@@ -68,6 +97,7 @@ use Rattle.demands.specs.PCases.{
   pCases,
   AllHold,
 }
+use Rattle.demands.proofs.Rulebook.{accepts-iff}
 use Rattle.demands.proofs.Files.{Sound, oneRules, no-record, one-record}
 
 -- ---- a file with no record
@@ -97,12 +127,57 @@ found-is : (pairs s : List ℕ) (hash : ℕ) (digest : List ℕ) {f : Found} →
 unfolding lookUpOf lookedUp foundUnder tableVerdict keyVerdict
 found-is pairs s hash digest g a e k = rw (g, a, e, k)
 
-pub empty : Empty
+none-accepted : (pairs s : List ℕ) (t : Heading) → goodTable pairs ≡ true → NoRecords s t 0 → checkOf pairs s ≡ accepted
+none-accepted pairs s t g f = check-is pairs s g (none-checked pairs s t 0 g f (omega arith))
+
+none-found : (pairs s : List ℕ) (t : Heading) (hash : ℕ) (digest : List ℕ) → goodTable pairs ≡ true → NoRecords s t 0
+    → allows pairs hash (length digest) ≡ true → lookUpOf pairs s hash digest ≡ absent
 unfolding foundIn foundOver
+none-found pairs s t hash digest g f a =
+    found-is pairs s hash digest {f = Absent} g a (none-checked pairs s t 0 g f (omega arith)) (rw (f .header))
+
+empty-lies : (t : Heading) → Lies (tidyOfRows t []) 112 112 0 112 136
+unfolding tidyForm formOf formBody formHeader sortBy packed headerFields recordsBytes digestBytes digestSection extentBytes footerFields bytesOf headerOf numAt le
+empty-lies t = record { bloomAt = refl; recordsAt = refl; digestsAt = refl; digestsLong = refl; extentsAt = refl; long = refl }
+
+-- a form without records carries its right checksum
+empty-sealed : (t : Heading) → ChecksumMeets (tidyOfRows t [])
+unfolding tidyForm sortBy footerOf footerFields packed Each
+empty-sealed t =
+    let p : Parts v3 t [] [] (formOf v3 t [] []) = parts v3 v3-shaped t [] [] in
+    let body : List ℕ = formBody v3 t [] [] in
+    has-number 8 (crc body) (has-left (bytesOf 8 (crc body)) _ (p .ending-has)) (crc-fits body (body-bytes v3 [] t [] [] (λ i. lit< tt) tt))
+    ∙ ap crc (sym (p .body-taken))
+
+-- with whatever was written of the heading
+empty-form : (t : Heading) → NoRecords (tidyOfRows t []) (headingOf (tidyOfRows t []) (headerOf (tidyOfRows t []))) 0
+unfolding tidyForm formOf formBody formHeader sortBy packed headerFields recordsBytes digestBytes digestSection extentBytes footerFields bytesOf headerOf numAt le headingOf extentTotal largestVisibility
+empty-form t = record { long = refl; header = refl; checksum = empty-sealed t }
+
+empty-placed : (pairs s : List ℕ) → checkOf pairs s ≡ accepted → recordCount (headerOf s) ≡ 0 → bloomSize (headerOf s) ≡ 0
+    → digestsSize (headerOf s) ≡ 0 → extentCount (headerOf s) ≡ 0 → Lies s 112 112 0 112 136
+empty-placed pairs s e n b d x =
+    let y : LayoutMeets v3 s (headerOf s) = accepts-iff pairs s .0 e .1 .layout in
+    let at-records : recordsOffset (headerOf s) ≡ 112 = omega (arith, y .records, b) in
+    let at-digests : digestsOffset (headerOf s) ≡ 112 = omega (arith, y .digests, at-records, n) in
+    let at-extents : extentsOffset (headerOf s) ≡ 112 = omega (arith, y .extents, at-digests, d) in
+    record {
+      bloomAt = y .noBloom b;
+      recordsAt = at-records;
+      digestsAt = at-digests;
+      digestsLong = d;
+      extentsAt = at-extents;
+      long = omega (arith, y .file, at-extents, x);
+    }
+
+pub empty : Empty
 empty = record {
-  accepts = λ pairs s t g f. check-is pairs s g (none-checked pairs s t 0 g f (omega arith));
-  finds-none = λ pairs s t hash digest g f a.
-      found-is pairs s hash digest {f = Absent} g a (none-checked pairs s t 0 g f (omega arith)) (rw (f .header));
+  lies = empty-lies;
+  form-accepts = λ pairs t g. none-accepted pairs (tidyOfRows t []) _ g (empty-form t);
+  form-finds-none = λ pairs t hash digest g. none-found pairs (tidyOfRows t []) _ hash digest g (empty-form t);
+  must-lie = empty-placed;
+  accepts = none-accepted;
+  finds-none = none-found;
 }
 
 pub shown-nothing : ShownNothing
@@ -228,7 +303,13 @@ unfolding oneRules recordRules marksVerdict digestVerdict goneExtents extentsVer
 gone-rules pairs s t shown g = rw (eq-eqb (t .domain) (t .domain) refl, g .seven)
 
 pub gone-shown : GoneShown
+unfolding visibilityNo
 gone-shown = record {
+  must-show = λ pairs s k e l g v.
+      let m : Meets v3 pairs s = accepts-iff pairs s .0 e .1 in
+      let shown = m .visibility .largest k l in
+      let most = m .header .visibility in
+      omega arith;
   accepts = λ pairs s t g f. check-is pairs s (g .good) (alone pairs s t 1 _ g f (omega arith) ∙ gone-rules pairs s t 1 g);
   refuses = λ pairs s t g f. check-is pairs s (g .good) (alone pairs s t 0 _ g f (omega arith) ∙ gone-rules pairs s t 0 g);
 }
@@ -238,13 +319,13 @@ gone-shown = record {
 pub one-row : OneRow
 unfolding tidyForm formOf formBody formHeader sortBy insert packed headerFields recordFields recordFor recordsBytes digestBytes digestSection extentListBytes extentBytes extentFields footerFields bytesOf headerOf numAt le
 one-row = record {
-  lies = λ t hash a b c d v source e. record { recordsAt = refl; digestsAt = refl; digestsLong = refl; extentsAt = refl; long = refl };
+  lies = λ t hash a b c d v source e. record { bloomAt = refl; recordsAt = refl; digestsAt = refl; digestsLong = refl; extentsAt = refl; long = refl };
   padded = λ t hash a b c d v source e. refl;
 }
 
 pub case-l : CaseL
 unfolding tidyForm formOf formBody formHeader sortBy insert lexLeq packed headerFields recordFields recordFor recordsBytes digestBytes digestSection extentListBytes extentBytes extentFields footerFields bytesOf headerOf numAt le
-case-l = λ t. record { recordsAt = refl; digestsAt = refl; digestsLong = refl; extentsAt = refl; long = refl }
+case-l = λ t. record { bloomAt = refl; recordsAt = refl; digestsAt = refl; digestsLong = refl; extentsAt = refl; long = refl }
 
 -- ---- all of them
 

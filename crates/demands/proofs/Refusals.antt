@@ -4,7 +4,7 @@
 use Prim.Native.Nat.{ℕ}
 use mathlib.Core.Path.{_≡_, refl, _∙_}
 use mathlib.Core.Bool.{Bool, true, false}
-use mathlib.Core.Logic.{_↔_, Iff·rfl, by-cases}
+use mathlib.Core.Logic.{_↔_, by-cases}
 use mathlib.Core.List.{List}
 use native.Mathlib.Decide.{ℕ-discrete}
 use Rattle.rules.specs.declared.Refusal.{Refusal}
@@ -26,8 +26,9 @@ use Rattle.rules.specs.declared.Refusal.the-variants.{
 use Rattle.rules.specs.declared.Verdict.{Verdict}
 use Rattle.rules.specs.declared.Verdict.the-variants.{Accepted, Refused}
 use Rattle.rules.specs.Rules.{firstOver}
-use Rattle.rules.specs.Answers.{refused}
+use Rattle.rules.specs.Answers.{refused, checkAnswer}
 use Rattle.rules.proofs.Order.{never-both, Lowest, by-run}
+use Rattle.rules.proofs.Settled.{check-settled}
 use Rattle.segment.specs.Format.{v3, headerOf, recordCount}
 use Rattle.store.specs.Table.{goodTable}
 use Rattle.segment.specs.Keys.{freshKey}
@@ -51,7 +52,7 @@ use Rattle.book.proofs.Rows.{decided}
 use Rattle.book.proofs.TablesHeader.{size-book, header-book, layout-book, checksum-book}
 use Rattle.book.proofs.TablesRecord.{marks-book, digest-book, extents-book, record-book}
 use Rattle.book.proofs.TablesWhole.{visibility-book}
-use Rattle.demands.proofs.Rulebook.{answer-is}
+use Rattle.demands.proofs.InNumbers.{in-numbers}
 use Rattle.demands.proofs.Stops.{at-keys, given-refused}
 
 -- where the walk comes to
@@ -151,4 +152,5 @@ refused-iff pairs s r = (λ e. settled pairs s r e (judged pairs s), given-refus
 
 -- in document 01's numbers
 pub refused-numbers : (pairs s : List ℕ) (r : Refusal) → (checkOf pairs s ≡ refused r) ↔ Given pairs s r
-refused-numbers pairs s r = simp (answer-is pairs s (Refused r), refused-iff pairs s r) Iff·rfl
+unfolding checkOf
+refused-numbers pairs s = in-numbers checkAnswer Refused check-settled (λ r. refl) (checked pairs s) (refused-iff pairs s)

@@ -15,12 +15,14 @@ use Rattle.rules.specs.declared.Verdict.{Verdict}
 use Rattle.rules.specs.declared.Verdict.the-variants.{Accepted, Refused as Stopped}
 use Rattle.rules.specs.declared.Written.{Written}
 use Rattle.rules.specs.declared.Written.the-variants.{Done, Refused}
+use Rattle.rules.specs.Answers.{refused, writtenAnswer}
 use Rattle.rules.specs.Rules.{must, _then_, after}
 use Rattle.rules.proofs.Order.{must-accepted, rows, then-refused}
 use Rattle.rules.proofs.Settled.{written-settled}
 use Rattle.segment.specs.Format.{fileLimit}
 use Rattle.segment.specs.Tidy.{roomVerdict, outputAfter, Outcome, outcome, settled}
 use Rattle.demands.specs.Tidying.{Wrote, SizeGiven, by-limit, by-room}
+use Rattle.demands.proofs.InNumbers.{in-numbers}
 
 after-done : (v : Verdict) (n m : ℕ) → after Refused v (Done n) ≡ Done m ↔ (v ≡ Accepted) × (n ≡ m)
 after-done Accepted n m = (λ e. (refl, cc), λ e. ap Done (e .1))
@@ -88,6 +90,10 @@ module _ (v : Verdict) (result : List ℕ) where
 
     pub refused-keeps : (r : Refusal) → settled v result (length out) ≡ Refused r → left .output ≡ out
     refused-keeps r e = rw e
+
+-- a refusal, in document 01's numbers
+pub written-numbers : (w : Written) {G : Refusal → Type 0} → ((r : Refusal) → w ≡ Refused r ↔ G r) → (r : Refusal) → writtenAnswer w ≡ refused r ↔ G r
+written-numbers = in-numbers writtenAnswer Refused written-settled (λ r. refl)
 
 -- two answers that one promise allows are equal, and so is what they leave
 pub one-outcome : (o : Outcome) (v w : Written) (x y : List ℕ) → outcome v x ≡ o → outcome w y ≡ o → (v ≡ w) × (x ≡ y)

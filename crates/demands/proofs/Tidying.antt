@@ -12,6 +12,7 @@ use Rattle.rules.specs.declared.Refusal.{Refusal}
 use Rattle.rules.specs.declared.Verdict.the-variants.{Accepted}
 use Rattle.rules.specs.declared.Written.{Written}
 use Rattle.rules.specs.declared.Written.the-variants.{Refused}
+use Rattle.rules.specs.Answers.{refused}
 use Rattle.segment.specs.Format.{v3, fileLimit}
 use Rattle.store.specs.Table.{goodTable}
 use Rattle.segment.specs.Check.{checked, checkOf}
@@ -26,7 +27,7 @@ use Rattle.demands.specs.PCases.{accepted}
 use Rattle.demands.specs.Tidying.{Wrote, tidyBytes, Tidiable, TidyGiven, Keeps, SameForm}
 use Rattle.demands.proofs.Rulebook.{answer-is, accepts-iff}
 use Rattle.demands.proofs.Refusals.{refused-iff}
-use Rattle.demands.proofs.Settling.{settled-refused, wrote-iff, refused-keeps, one-outcome}
+use Rattle.demands.proofs.Settling.{settled-refused, wrote-iff, refused-keeps, written-numbers, one-outcome}
 
 -- ---- when tidy writes, and what
 
@@ -45,6 +46,11 @@ module _ (pairs s : List ℕ) where
   pub tidy-refused-iff : (room : ℕ) (r : Refusal) → tidied pairs s room ≡ Refused r ↔ TidyGiven pairs s room r
   unfolding tidied
   tidy-refused-iff room r = settled-refused (checked pairs s) (tidyBytes s) (Iff·symm (answer-is pairs s Accepted)) (refused-iff pairs s) room r
+
+  -- in document 01's numbers
+  pub tidy-refused-numbers : (out : List ℕ) (r : Refusal) → tidyOf pairs s out .answer ≡ refused r ↔ TidyGiven pairs s (length out) r
+  unfolding tidyOf
+  tidy-refused-numbers out = written-numbers (tidied pairs s (length out)) (tidy-refused-iff (length out))
 
   pub tidy-refused-keeps : (out : List ℕ) (r : Refusal) → tidied pairs s (length out) ≡ Refused r → tidyOf pairs s out .output ≡ out
   unfolding tidyOf tidied

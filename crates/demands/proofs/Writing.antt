@@ -16,6 +16,7 @@ use Rattle.numbers.proofs.Laws.{bytes-take, bytes-drop}
 use Rattle.rules.specs.declared.Refusal.{Refusal}
 use Rattle.rules.specs.declared.Written.{Written}
 use Rattle.rules.specs.declared.Written.the-variants.{Refused}
+use Rattle.rules.specs.Answers.{refused}
 use Rattle.rules.proofs.Order.{by-test, and-iff, leb-iff, ltb-iff}
 use Rattle.segment.specs.declared.entry.Entry.{Entry}
 use Rattle.segment.specs.Format.{v3, fileLimit}
@@ -51,7 +52,7 @@ use Rattle.demands.specs.Tidying.{Wrote, tidyBytes, Tidiable, Keeps}
 use Rattle.demands.specs.Writing.{Wide, Lent, Asks, writtenBytes, Writes, WriteGiven}
 use Rattle.demands.specs.Asking.{requestFor, AskedFor}
 use Rattle.demands.proofs.Rulebook.{accepts-iff}
-use Rattle.demands.proofs.Settling.{settled-refused, wrote-iff, refused-keeps, one-outcome}
+use Rattle.demands.proofs.Settling.{settled-refused, wrote-iff, refused-keeps, written-numbers, one-outcome}
 use Rattle.demands.proofs.Requests.{request-accepted, request-refused-iff}
 use Rattle.demands.proofs.Tidying.{tidied-iff, FormFor, form-keeps, forms-same-iff, accepted-form, tidied-form}
 use Rattle.demands.proofs.Asking.{asked-for}
@@ -72,6 +73,11 @@ module _ (pairs : List ℕ) (q : Request) where
   unfolding wrote
   write-refused-iff room r =
       settled-refused (requestVerdict v3 pairs q) (writtenBytes q) (request-accepted pairs q) (request-refused-iff pairs q) room r
+
+  -- in document 01's numbers
+  pub write-refused-numbers : (out : List ℕ) (r : Refusal) → writeOf pairs q out .answer ≡ refused r ↔ WriteGiven pairs q (length out) r
+  unfolding writeOf
+  write-refused-numbers out = written-numbers (wrote pairs q (length out)) (write-refused-iff (length out))
 
   pub write-refused-keeps : (out : List ℕ) (r : Refusal) → wrote pairs q (length out) ≡ Refused r → writeOf pairs q out .output ≡ out
   unfolding writeOf wrote

@@ -5,3 +5,4 @@ pub mod Tidying
 pub mod Writing
 pub mod Asking
 pub mod Answering
+pub mod Demands

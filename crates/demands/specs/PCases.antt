@@ -2,7 +2,7 @@
 -- A case that gets past the checksum is stated for any such file that carries its right checksum: a file is described by what stands in its
 -- fields, and every other byte is free.
 -- Assumes nothing: these are definitions.
-use Prim.Native.Nat.{ℕ, _≤_}
+use Prim.Native.Nat.{ℕ, _≤_, _<_}
 use mathlib.Core.Path.{_≡_}
 use mathlib.Core.Bool.{true}
 use mathlib.Core.List.{List, [], _∷_}
@@ -24,12 +24,15 @@ use Rattle.segment.specs.Format.{
   headerOf,
   recordOf,
   extentOf,
+  recordCount,
+  recordNo,
   recordsOffset,
   bloomOffset,
   bloomSize,
   digestsOffset,
   digestsSize,
   extentsOffset,
+  extentCount,
 }
 use Rattle.store.specs.Table.{goodTable, allows}
 use Rattle.segment.specs.Check.{headVerdict, checkOf}
@@ -119,21 +122,9 @@ pub record NoExtent (s : List ℕ) (t : Heading) (shown : ℕ) (r : Record) : Ty
   pub record₀ : recordOf v3 s 112 ≡ r
   pub checksum : ChecksumMeets s
 
--- ---- the cases, in document 01's order
-
--- 0 records, no bloom: 136 bytes, bloom offset 0, the rest 112. Accepted; every valid key absent
-pub record Empty : Type 0 where
-  pub accepts : (pairs s : List ℕ) (t : Heading) → goodTable pairs ≡ true → NoRecords s t 0 → checkOf pairs s ≡ accepted
-  pub finds-none : (pairs s : List ℕ) (t : Heading) (hash : ℕ) (digest : List ℕ) → goodTable pairs ≡ true → NoRecords s t 0
-      → allows pairs hash (length digest) ≡ true → lookUpOf pairs s hash digest ≡ absent
-
--- 0 bytes and 135 bytes: refusal 1
-pub record Short : Type 0 where
-  pub none : (pairs s : List ℕ) → goodTable pairs ≡ true → length s ≡ 0 → checkOf pairs s ≡ refusedBy 1 0
-  pub one-less : (pairs s : List ℕ) → goodTable pairs ≡ true → length s ≡ 135 → checkOf pairs s ≡ refusedBy 1 0
-
--- where the sections of a file lie, and how long it is
+-- where the sections of a file without bloom bytes lie, and how long it is: its bloom offset is 0
 pub record Lies (s : List ℕ) (records digests size extents file : ℕ) : Type 0 where
+  pub bloomAt : bloomOffset (headerOf s) ≡ 0
   pub recordsAt : recordsOffset (headerOf s) ≡ records
   pub digestsAt : digestsOffset (headerOf s) ≡ digests
   pub digestsLong : digestsSize (headerOf s) ≡ size
@@ -143,6 +134,28 @@ pub record Lies (s : List ℕ) (records digests size extents file : ℕ) : Type 
 -- the tidy form of a heading, no bloom bytes and some records
 abbrev pub tidyOfRows : Heading → List Row → List ℕ
 tidyOfRows t rows = tidyForm v3 (record { heading = t; bloom = []; records = rows })
+
+-- ---- the cases, in document 01's order
+
+-- 0 records, no bloom: 136 bytes, bloom offset 0, the rest 112. Accepted; every valid key absent
+pub record Empty : Type 0 where
+  -- the tidy form of no records, under any heading
+  pub lies : (t : Heading) → Lies (tidyOfRows t []) 112 112 0 112 136
+  pub form-accepts : (pairs : List ℕ) (t : Heading) → goodTable pairs ≡ true → checkOf pairs (tidyOfRows t []) ≡ accepted
+  pub form-finds-none : (pairs : List ℕ) (t : Heading) (hash : ℕ) (digest : List ℕ) → goodTable pairs ≡ true
+      → allows pairs hash (length digest) ≡ true → lookUpOf pairs (tidyOfRows t []) hash digest ≡ absent
+  -- any accepted segment whose sections are empty
+  pub must-lie : (pairs s : List ℕ) → checkOf pairs s ≡ accepted → recordCount (headerOf s) ≡ 0 → bloomSize (headerOf s) ≡ 0
+      → digestsSize (headerOf s) ≡ 0 → extentCount (headerOf s) ≡ 0 → Lies s 112 112 0 112 136
+  -- any file with these offsets that carries its right checksum
+  pub accepts : (pairs s : List ℕ) (t : Heading) → goodTable pairs ≡ true → NoRecords s t 0 → checkOf pairs s ≡ accepted
+  pub finds-none : (pairs s : List ℕ) (t : Heading) (hash : ℕ) (digest : List ℕ) → goodTable pairs ≡ true → NoRecords s t 0
+      → allows pairs hash (length digest) ≡ true → lookUpOf pairs s hash digest ≡ absent
+
+-- 0 bytes and 135 bytes: refusal 1
+pub record Short : Type 0 where
+  pub none : (pairs s : List ℕ) → goodTable pairs ≡ true → length s ≡ 0 → checkOf pairs s ≡ refusedBy 1 0
+  pub one-less : (pairs s : List ℕ) → goodTable pairs ≡ true → length s ≡ 135 → checkOf pairs s ≡ refusedBy 1 0
 
 -- a record with a 4-byte digest and one extent
 abbrev pub rowWith : (hash a b c d visibility : ℕ) → Source → Extent → Row
@@ -210,6 +223,10 @@ ShownNothing = (pairs s : List ℕ) (t : Heading) → goodTable pairs ≡ true �
 
 -- only a gone record is published: header visibility 1. With 0 the file is refused by 11
 pub record GoneShown : Type 0 where
+  -- any accepted segment with a gone record that is published
+  pub must-show : (pairs s : List ℕ) (k : ℕ) → checkOf pairs s ≡ accepted → k < recordCount (headerOf s)
+      → recordNo v3 s (headerOf s) k .flags ≡ 1 → recordNo v3 s (headerOf s) k .visibility ≡ 1 → headerOf s .visibility ≡ 1
+  -- any file with one gone record that is published
   pub accepts : (pairs s : List ℕ) (t : Heading) → Stored pairs → NoExtent s t 1 (recordWith t 0 0 0 1 1) → checkOf pairs s ≡ accepted
   pub refuses : (pairs s : List ℕ) (t : Heading) → Stored pairs → NoExtent s t 0 (recordWith t 0 0 0 1 1) → checkOf pairs s ≡ refusedBy 11 0
 

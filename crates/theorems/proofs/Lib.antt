@@ -1,0 +1,4 @@
+pub mod Tables
+pub mod Accounts
+pub mod Members
+pub mod Tellings
