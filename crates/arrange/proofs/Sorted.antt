@@ -1,4 +1,4 @@
--- Numbers counted up and sorted: each is still the number of an item that may be written, and the items' rows in that order are their rows, sorted.
+-- Sorted numbers: each is still the number of an item that may be written, and the items' rows in that order are their rows, sorted.
 -- Assumes nothing.
 use Prim.Native.Nat.{ℕ, _≤_}
 use mathlib.Core.Path.{_≡_, ap, subst, _∙_}
@@ -7,51 +7,31 @@ use lib.ListN.{length}
 use Rattle.rules.specs.declared.Written.{Written}
 use Rattle.segment.specs.declared.header.Heading.{Heading}
 use Rattle.segment.specs.Format.{v3}
-use Rattle.segment.specs.Keys.{sortBy}
 use Rattle.segment.specs.Meaning.{countFrom}
-use Rattle.segment.specs.Tidy.{formOf, rowLeq, tidyForm}
+use Rattle.segment.specs.Tidy.{formOf, tidyForm}
 use Rattle.keys.specs.declared.Kind.{Kind}
-use Rattle.keys.specs.Items.{Item}
-use Rattle.keys.specs.Lex.{itemLeq}
-use Rattle.order.specs.Order.{Each}
-use Rattle.order.proofs.Counting.{count-length, front, front-long}
-use Rattle.order.proofs.Each.{counted-iff}
-use Rattle.order.proofs.Arranged.{each-sort}
-use Rattle.order.proofs.Sorting.{sort-length}
+use Rattle.keys.specs.Items.{Items}
+use Rattle.order.specs.Order.{Sorted}
+use Rattle.order.proofs.Counting.{front, front-long}
+use Rattle.order.proofs.Numbered.{sorted-each}
 use Rattle.lines.specs.Lines.{itemRows, Lines, Line}
-use Rattle.lines.proofs.Rows.{read-lines, rows-sorted}
+use Rattle.lines.proofs.Rows.{rows-sorted}
 use Rattle.emit.specs.Emit.{Wrote}
 use Rattle.arrange.specs.Arrange.{AllLines, itemsForm}
 
--- ---- sorting what was counted
+module _ (kind : Kind) (bytes list extents : List ℕ) (n : ℕ) where
+  pub lines-read : AllLines kind bytes list extents n → Items kind bytes list n
+  lines-read a = record { each = λ k h. a .each k h .counted .item }
 
-module _ (kind : Kind) (bytes list extents : List ℕ) (n : ℕ) (a : AllLines kind bytes list extents n) (counted : List ℕ) (c : counted ≡ countFrom 0 n) where
-  counted-lines : Lines kind bytes list extents counted
-  counted-lines = rw c (counted-iff (Line kind bytes list extents) n .1 (a .each))
+  module _ (hints numbers : List ℕ) (s : Sorted kind bytes list n hints numbers) where
+    pub sorted-lines : AllLines kind bytes list extents n → Lines kind bytes list extents numbers
+    sorted-lines a = sorted-each kind bytes list n hints numbers s (Line kind bytes list extents) (a .each)
 
-  pub counted-many : length counted ≡ n
-  counted-many = ap length c ∙ count-length 0 n
-
-  pub readable : Each (Item kind bytes list) counted
-  readable = read-lines kind bytes list extents counted counted-lines
-
-  module _ (sorted : List ℕ) (s : sorted ≡ sortBy (itemLeq kind bytes list) counted) where
-    pub sorted-lines : Lines kind bytes list extents sorted
-    sorted-lines = rw s (each-sort (itemLeq kind bytes list) (Line kind bytes list extents) counted counted-lines)
-
-    pub sorted-long : length sorted ≡ n
-    sorted-long = ap length s ∙ sort-length (itemLeq kind bytes list) counted ∙ counted-many
-
-    pub sorted-form : (t : Heading) (bloom : List ℕ) → formOf v3 t bloom (itemRows kind bytes list extents sorted) ≡ itemsForm t bloom kind bytes list extents n
+    sorted-form : (t : Heading) (bloom : List ℕ) → formOf v3 t bloom (itemRows kind bytes list extents numbers) ≡ itemsForm t bloom kind bytes list extents n
     unfolding itemsForm tidyForm
-    sorted-form t bloom =
-        ap (formOf v3 t bloom) (
-        ap (itemRows kind bytes list extents) s
-        ∙ rows-sorted kind bytes list extents counted
-        ∙ ap (λ (x : List ℕ). sortBy rowLeq (itemRows kind bytes list extents x)) c
-        )
+    sorted-form t bloom = ap (formOf v3 t bloom) (ap (itemRows kind bytes list extents) (s .sorted) ∙ rows-sorted kind bytes list extents (countFrom 0 n))
 
-    pub sorted-wrote : (t : Heading) (bloom out after : List ℕ) (w : Written) → Wrote (formOf v3 t bloom (itemRows kind bytes list extents sorted)) out after w
+    pub sorted-wrote : (t : Heading) (bloom out after : List ℕ) (w : Written) → Wrote (formOf v3 t bloom (itemRows kind bytes list extents numbers)) out after w
         → Wrote (itemsForm t bloom kind bytes list extents n) out after w
     sorted-wrote t bloom out after w h = subst (λ (f : List ℕ). Wrote f out after w) (sorted-form t bloom) h
 

@@ -1,5 +1,6 @@
-// The tidy form of items: their numbers sorted by key, and the items written in that order. The numbers stand in arrays on the stack,
-// small ones for a small segment, so that it does not pay for the largest.
+// The tidy form of items: their numbers sorted by key, and the items written in that order. The numbers and the hints of the keys
+// stand in arrays on the stack, small ones for a small segment, so that it does not pay for the largest.
+ghost use mathlib.Core.Path.{_≡_};
 ghost use Prim.Native.Nat.{_≤_};
 ghost use lib.ListN.{length};
 ghost use Rattle.emit.specs.Emit.{Wrote};
@@ -16,21 +17,22 @@ fn arrange(
     bytes: &[u8],
     list: &[u64],
     extents: &[u64],
+    hints: &mut [u32],
     numbers: &mut [u16],
     spare: &mut [u16],
     out: &mut [u8],
 ) -> Written
     requires { ⌜ AllLines kind (now bytes) (now list) (now extents) (length (now numbers)) ⌝ }
+    requires { ⌜ length (now hints) ≡ length (now numbers) ⌝ }
     requires { ⌜ length (now numbers) ≤ length (now spare) ⌝ }
     requires { ⌜ length (now numbers) ≤ 65536 ⌝ }
     ensures { λ r. ⌜ Wrote (itemsForm t (now (bloom .entry)) kind (now (bytes .entry)) (now (list .entry)) (now (extents .entry)) (length (now (numbers .entry)))) (now (out .entry)) (now (out .exit)) r ⌝ }
 {
-    order::count_up(numbers);
-    order::sort(kind, bytes, list, numbers, spare);
+    order::sorted(kind, bytes, list, hints, numbers, spare);
     emit::emit(t, bloom, kind, bytes, list, extents, numbers, out)
 }
 
-// With numbers for 256 items.
+// With hints and numbers for 256 items.
 fn arrange_few(
     t: Heading,
     bloom: &[u8],
@@ -45,6 +47,7 @@ fn arrange_few(
     requires { ⌜ n ≤ 256 ⌝ }
     ensures { λ r. ⌜ Wrote (itemsForm t (now (bloom .entry)) kind (now (bytes .entry)) (now (list .entry)) (now (extents .entry)) n) (now (out .entry)) (now (out .exit)) r ⌝ }
 {
+    let mut hints = [0u32; 256];
     let mut numbers = [0u16; 256];
     let mut spare = [0u16; 256];
     arrange(
@@ -54,13 +57,14 @@ fn arrange_few(
         bytes,
         list,
         extents,
+        &mut hints[..n],
         &mut numbers[..n],
         &mut spare[..],
         out,
     )
 }
 
-// With numbers for as many items as a segment can have.
+// With hints and numbers for as many items as a segment can have.
 fn arrange_many(
     t: Heading,
     bloom: &[u8],
@@ -75,6 +79,7 @@ fn arrange_many(
     requires { ⌜ n ≤ 65536 ⌝ }
     ensures { λ r. ⌜ Wrote (itemsForm t (now (bloom .entry)) kind (now (bytes .entry)) (now (list .entry)) (now (extents .entry)) n) (now (out .entry)) (now (out .exit)) r ⌝ }
 {
+    let mut hints = [0u32; 65536];
     let mut numbers = [0u16; 65536];
     let mut spare = [0u16; 65536];
     arrange(
@@ -84,6 +89,7 @@ fn arrange_many(
         bytes,
         list,
         extents,
+        &mut hints[..n],
         &mut numbers[..n],
         &mut spare[..],
         out,

@@ -15,10 +15,10 @@ use Rattle.rules.proofs.Order.{by-test, first-none}
 use Rattle.segment.specs.Keys.{lexLeq, freshKey, sortBy}
 use Rattle.segment.specs.Meaning.{countFrom}
 use Rattle.keys.specs.declared.Kind.{Kind}
-use Rattle.keys.specs.Items.{Item, Items, itemKey}
+use Rattle.keys.specs.Items.{Items, itemKey}
 use Rattle.keys.specs.Lex.{itemLeq}
-use Rattle.order.specs.Order.{Each, Ascending}
-use Rattle.order.proofs.Arranged.{each-sort, sort-permutes, sort-ascends}
+use Rattle.order.specs.Order.{Ascending, Sorted}
+use Rattle.order.proofs.Arranged.{sort-permutes, sort-ascends}
 use Rattle.order.proofs.Counting.{count-length, front, front-long}
 use Rattle.order.proofs.Each.{each-of, counted-iff, each-permuted}
 use Rattle.order.proofs.Fresh.{keys-book}
@@ -177,22 +177,12 @@ module _ (kind : Kind) (bytes list : List ℕ) (n : ℕ) where
 pub known-none : (key : ℕ → List ℕ) (n : ℕ) → Known key 0 n
 known-none key n = record { within = omega arith; fresh = first-none (freshKey key) }
 
--- ---- counting, sorting and passing
+-- ---- sorting and passing
 
-module _ (kind : Kind) (bytes list : List ℕ) (n : ℕ) (items : Items kind bytes list n) (counted : List ℕ) (c : counted ≡ countFrom 0 n) where
-  pub counted-many : length counted ≡ n
-  counted-many = ap length c ∙ count-length 0 n
-
-  pub counted-read : Each (Item kind bytes list) counted
-  counted-read = rw c (counted-iff (Item kind bytes list) n .1 (items .each))
-
-  module _ (by-key : List ℕ) (s : by-key ≡ sortBy (itemLeq kind bytes list) counted) where
-    pub sorted-read : Each (Item kind bytes list) by-key
-    sorted-read = rw s (each-sort (itemLeq kind bytes list) (Item kind bytes list) counted counted-read)
-
-    pub sorted-falls : {r : ℕ} → r ≡ lowestFall (itemLeq kind bytes list) by-key (length by-key - 1) → r ≡ sortedFall (itemLeq kind bytes list) n
-    unfolding sorted
-    sorted-falls e = e ∙ rw (s, c) (sym (sorted-told (itemLeq kind bytes list) n))
+pub sorted-falls : (kind : Kind) (bytes list : List ℕ) (n : ℕ) (hints numbers : List ℕ) → Sorted kind bytes list n hints numbers
+    → {r : ℕ} → r ≡ lowestFall (itemLeq kind bytes list) numbers (length numbers - 1) → r ≡ sortedFall (itemLeq kind bytes list) n
+unfolding sorted
+sorted-falls kind bytes list n hints numbers s e = e ∙ rw (s .sorted) (sym (sorted-told (itemLeq kind bytes list) n))
 
 -- ---- the front of an array of m numbers, lent for n of them
 

@@ -11,7 +11,7 @@ ghost use Rattle.rules.specs.Rules.{firstOver};
 ghost use Rattle.segment.specs.Keys.{freshKey};
 ghost use Rattle.keys.specs.Items.{Items, itemKey};
 ghost use Rattle.keys.specs.Lex.{itemLeq};
-ghost use Rattle.order.specs.Order.{Readable};
+ghost use Rattle.order.specs.Order.{AllHinted};
 ghost use Rattle.fresh.specs.Falls.{climbs, lowestFall, sortedFall, Known};
 use keys::Kind;
 use rules::Refusal;
@@ -37,8 +37,8 @@ pub fn keys_climb(kind: Kind, bytes: &[u8], list: &[u64], n: usize) -> bool
 
 // The lowest of the numbers whose item comes no later than that of the number before it; if there is none, as many as there are
 // numbers.
-fn lowest_fall(kind: Kind, bytes: &[u8], list: &[u64], numbers: &[u16]) -> usize
-    requires { ⌜ Readable kind (now bytes) (now list) (now numbers) ⌝ }
+fn lowest_fall(kind: Kind, bytes: &[u8], list: &[u64], hints: &[u32], numbers: &[u16]) -> usize
+    requires { ⌜ AllHinted kind (now bytes) (now list) (now hints) (now numbers) ⌝ }
     ensures { λ r. ⌜ r ≡ lowestFall (itemLeq kind (now (bytes .entry)) (now (list .entry))) (now (numbers .entry)) (length (now (numbers .entry)) - 1) ⌝ }
 {
     let mut least = numbers.len();
@@ -47,7 +47,7 @@ fn lowest_fall(kind: Kind, bytes: &[u8], list: &[u64], numbers: &[u16]) -> usize
         let before = numbers[k] as usize;
         k += 1;
         let x = numbers[k] as usize;
-        if keys::comes_first(kind, bytes, list, x, before) {
+        if hints::comes_first(kind, bytes, list, hints, x, before) {
             if x < least {
                 least = x;
             }
@@ -61,39 +61,56 @@ fn sorted_fall(
     kind: Kind,
     bytes: &[u8],
     list: &[u64],
+    hints: &mut [u32],
     numbers: &mut [u16],
     spare: &mut [u16],
 ) -> usize
     requires { ⌜ Items kind (now bytes) (now list) (length (now numbers)) ⌝ }
+    requires { ⌜ length (now hints) ≡ length (now numbers) ⌝ }
     requires { ⌜ length (now numbers) ≤ length (now spare) ⌝ }
     requires { ⌜ length (now numbers) ≤ 65536 ⌝ }
     ensures { λ r. ⌜ r ≡ sortedFall (itemLeq kind (now (bytes .entry)) (now (list .entry))) (length (now (numbers .entry))) ⌝ }
 {
-    order::count_up(numbers);
-    order::sort(kind, bytes, list, numbers, spare);
-    lowest_fall(kind, bytes, list, numbers)
+    order::sorted(kind, bytes, list, hints, numbers, spare);
+    lowest_fall(kind, bytes, list, hints, numbers)
 }
 
-// With numbers for 256 items.
+// With hints and numbers for 256 items.
 fn fall_of_few(kind: Kind, bytes: &[u8], list: &[u64], n: usize) -> usize
     requires { ⌜ Items kind (now bytes) (now list) n ⌝ }
     requires { ⌜ n ≤ 256 ⌝ }
     ensures { λ r. ⌜ r ≡ sortedFall (itemLeq kind (now (bytes .entry)) (now (list .entry))) n ⌝ }
 {
+    let mut hints = [0u32; 256];
     let mut numbers = [0u16; 256];
     let mut spare = [0u16; 256];
-    sorted_fall(kind, bytes, list, &mut numbers[..n], &mut spare[..])
+    sorted_fall(
+        kind,
+        bytes,
+        list,
+        &mut hints[..n],
+        &mut numbers[..n],
+        &mut spare[..],
+    )
 }
 
-// With numbers for as many items as a segment can have.
+// With hints and numbers for as many items as a segment can have.
 fn fall_of_many(kind: Kind, bytes: &[u8], list: &[u64], n: usize) -> usize
     requires { ⌜ Items kind (now bytes) (now list) n ⌝ }
     requires { ⌜ n ≤ 65536 ⌝ }
     ensures { λ r. ⌜ r ≡ sortedFall (itemLeq kind (now (bytes .entry)) (now (list .entry))) n ⌝ }
 {
+    let mut hints = [0u32; 65536];
     let mut numbers = [0u16; 65536];
     let mut spare = [0u16; 65536];
-    sorted_fall(kind, bytes, list, &mut numbers[..n], &mut spare[..])
+    sorted_fall(
+        kind,
+        bytes,
+        list,
+        &mut hints[..n],
+        &mut numbers[..n],
+        &mut spare[..],
+    )
 }
 
 // How many items at the beginning are known to have keys that stand nowhere earlier, by the sorted order of all.

@@ -7,3 +7,4 @@ pub mod Arranged
 pub mod Merging
 pub mod Joining
 pub mod Halves
+pub mod Numbered

@@ -11,10 +11,10 @@ use Rattle.fresh.proofs.lowest_fall.Statement.{statement}
 use Rattle.fresh.proofs.lowest_fall.Tie as tie
 
 abbrev Inv-loop : tie.InvT-loop
-Inv-loop kind bytes list numbers least₀ k₀ least k = Falling (itemLeq kind bytes list) numbers k least
+Inv-loop kind bytes list hints numbers least₀ k₀ least k = Falling (itemLeq kind bytes list) numbers k least
 
 abbrev μ-loop : tie.MeasureT-loop
-μ-loop kind bytes list numbers least₀ k₀ least k = length numbers - k
+μ-loop kind bytes list hints numbers least₀ k₀ least k = length numbers - k
 
 pub lowest-fall-spec : {M : Type 1} → statement M
 lowest-fall-spec =
@@ -26,12 +26,12 @@ lowest-fall-spec =
     (λ c. omega arith)
     (λ c. search needs)
     (λ c. search needs)
-    (λ c. omega (arith, c .shared-slice-known4 .given (c .before .before .loop .k)))
+    (λ c. omega (arith, c .shared-slice-known5 .given (c .before .before .loop .k)))
     (λ c. search needs)
     (λ c. search needs)
     (λ c. search needs)
-    (λ c. omega (arith, c .shared-slice-known5 .given (c .before .before .before .loop .k + 1)))
-    (λ c κs. let start = c .before .before .before .before .before .before .before in (each-at _ _ _ (start .pre) (omega arith), each-at _ _ _ (start .pre) (omega arith)))
+    (λ c. omega (arith, c .shared-slice-known6 .given (c .before .before .before .loop .k + 1)))
+    (λ c κs. let start = c .before .before .before .before .before .before .before .before in (each-at _ _ _ (start .pre) (omega arith), each-at _ _ _ (start .pre) (omega arith)))
     (λ c. omega arith)
     (λ c. let at = c .before .before .before .before .before .before in falls-lower _ _ _ _ (at .loop .inv) (omega arith) (sym (c .before .before .comes-first .ensures) ∙ c .before .if1 .taken) (omega arith))
     (λ c. omega arith)

@@ -1,7 +1,7 @@
--- `fresh::sorted_fall` meets its contract: counted up, sorted, passed.
-use native.Mathlib.Omega.{arith}
+-- `fresh::sorted_fall` meets its contract: sorted, passed.
 use borrow.Author.Needs.{needs}
-use Rattle.fresh.proofs.Falling.{counted-many, counted-read, sorted-read, sorted-falls}
+use Rattle.order.proofs.Numbered.{sorted-hinted}
+use Rattle.fresh.proofs.Falling.{sorted-falls}
 use Rattle.fresh.proofs.sorted_fall.Statement.{statement}
 use Rattle.fresh.proofs.sorted_fall.Tie as tie
 
@@ -10,11 +10,8 @@ sorted-fall-spec =
     tie.close
     (tie.spec
     (λ c κs. search needs)
-    (λ c κs. let counted = c .before .before .before .before in let start = counted .before .before .before .before .before .before in let a = start .args in
-    (counted-read (a .kind) (a .bytes .now) (a .list .now) _ (start .pre .0) _ (counted .count-up .ensures), omega (arith, counted-many (a .kind) (a .bytes .now) (a .list .now) _ (start .pre .0) _ (counted .count-up .ensures), start .pre .1 .0)))
-    (λ c κs. let by-key = c .before .before .before .before .before in let counted = by-key .before .before .before .before .before in let start = counted .before .before .before .before .before .before in let a = start .args in
-    sorted-read (a .kind) (a .bytes .now) (a .list .now) _ (start .pre .0) _ (counted .count-up .ensures) _ (by-key .sort .ensures))
+    (λ c κs. let by-key = c .before .before .before .before .before .before .before .before in let start = by-key .before .before .before .before .before .before .before .before .before in sorted-hinted _ _ _ _ _ _ (by-key .sorted .ensures) (start .pre .0))
     (λ c. search needs)
     (λ c. search needs)
-    (λ c. let by-key = c .before .before .before .before .before .before in let counted = by-key .before .before .before .before .before in let start = counted .before .before .before .before .before .before in let a = start .args in
-    sorted-falls (a .kind) (a .bytes .now) (a .list .now) _ (start .pre .0) _ (counted .count-up .ensures) _ (by-key .sort .ensures) (c .lowest-fall .ensures)))
+    (λ c. search needs)
+    (λ c. let by-key = c .before .before .before .before .before .before .before .before .before in sorted-falls _ _ _ _ _ _ (by-key .sorted .ensures) (c .lowest-fall .ensures)))

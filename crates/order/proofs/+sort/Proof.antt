@@ -14,14 +14,14 @@ use Rattle.order.proofs.join.Reads as join-reads
 use Rattle.order.proofs.+sort.{statement}
 use Rattle.order.proofs.+sort.Tie.{close}
 
-abbrev μ-sort : Measures 4 sort-kinds.ps ℕ
-μ-sort κs a = length (a .1 .1 .1 .0 .now)
+abbrev μ-sort : Measures 5 sort-kinds.ps ℕ
+μ-sort κs a = length (a .1 .1 .1 .1 .0 .now)
 
-abbrev sort-at : ℕ → In 4 sort-kinds.ps
-sort-at t = and 4 sort-kinds.ps (is 4 sort-kinds.ps μ-sort t) sort.Pre
+abbrev sort-at : ℕ → In 5 sort-kinds.ps
+sort-at t = and 5 sort-kinds.ps (is 5 sort-kinds.ps μ-sort t) sort.Pre
 
-abbrev sort-below : ℕ → In 4 sort-kinds.ps
-sort-below t = and 4 sort-kinds.ps (falls 4 sort-kinds.ps _<_ μ-sort t) sort.Pre
+abbrev sort-below : ℕ → In 5 sort-kinds.ps
+sort-below t = and 5 sort-kinds.ps (falls 5 sort-kinds.ps _<_ μ-sort t) sort.Pre
 
 pub +sort-spec : {M : Type 1} → statement M
 +sort-spec = close μ-sort λ t. sort-lts.spec (sort-below t, sort.Post, join-reads.Asked, join-reads.Learnt)

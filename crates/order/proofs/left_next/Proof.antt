@@ -8,7 +8,7 @@ use Rattle.order.proofs.left_next.Tie as tie
 
 can-read : tie.Need-comes-first-requires
 can-read c κs =
-    let start = c .before .before .before .before .before .before .before .before in
+    let start = c .before .before .before .before .before .before .before .before .before in
     (each-at _ _ _ (start .pre .0) (omega arith), each-at _ _ _ (start .pre .1) (omega arith))
 
 pub left-next-spec : {M : Type 1} → statement M
@@ -19,9 +19,9 @@ left-next-spec =
     (λ c. search right-ended)
     (λ c. search needs)
     (λ c. search needs)
-    (λ c. omega (arith, c .shared-slice-known5 .given (c .before .before .before .before .before .before .before .args .i)))
+    (λ c. omega (arith, c .shared-slice-known6 .given (c .before .before .before .before .before .before .before .before .args .i)))
     (λ c. search needs)
     (λ c. search needs)
-    (λ c. omega (arith, c .shared-slice-known6 .given (c .before .before .before .before .before .before .before .before .args .j)))
+    (λ c. omega (arith, c .shared-slice-known7 .given (c .before .before .before .before .before .before .before .before .before .args .j)))
     can-read
     (λ c. search test-decides))

@@ -12,21 +12,21 @@ use Rattle.order.proofs.merge.Statement.{statement}
 use Rattle.order.proofs.merge.Tie as tie
 
 abbrev Inv-loop : tie.InvT-loop
-Inv-loop kind bytes list a b out₀ n i₀ j₀ out i j =
+Inv-loop kind bytes list hints a b out₀ n i₀ j₀ out i j =
     (i ≤ length a)
     × (j ≤ length b)
     × (length out ≡ length out₀)
     × (mergeBy (itemLeq kind bytes list) a b ≡ take (i + j) out ++ mergeBy (itemLeq kind bytes list) (drop i a) (drop j b))
 
 abbrev μ-loop : tie.MeasureT-loop
-μ-loop kind bytes list a b out₀ n i₀ j₀ out i j = length a + length b - (i + j)
+μ-loop kind bytes list hints a b out₀ n i₀ j₀ out i j = length a + length b - (i + j)
 
 took-left : tie.Need-loop-again Inv-loop μ-loop
 took-left c =
     let at = c .before .before .before .before in
     let e = c .before .before .left-next .ensures in
     let h = left-stands _ _ _ (at .loop .i) (at .loop .j) _ e (c .before .if1 .taken) in
-    let start = at .before .before .before .before .before .before in
+    let start = at .before .before .before .before .before .before .before in
     let v = at .loop .inv in
     (omega arith, omega arith, search needs, next-left _ _ _ _ (start .args .out .now) (at .loop .i) (at .loop .j) (v .3) (start .pre .1 .1) (v .2) _ e (c .before .if1 .taken) (omega arith))
 
@@ -35,7 +35,7 @@ took-right c =
     let at = c .before .before .before .before in
     let e = c .before .before .left-next .ensures in
     let h = right-stands _ _ _ (at .loop .i) (at .loop .j) _ e (c .before .if1 .left) (omega arith) (omega arith) in
-    let start = at .before .before .before .before .before .before in
+    let start = at .before .before .before .before .before .before .before in
     let v = at .loop .inv in
     (omega arith, omega arith, search needs, next-right _ _ _ _ (start .args .out .now) (at .loop .i) (at .loop .j) (v .3) (start .pre .1 .1) (v .2) _ e (c .before .if1 .left) (omega arith) (omega arith))
 
