@@ -10,8 +10,8 @@ use lib.ListN.{length}
 use Rattle.rules.specs.declared.Written.{Written}
 use Rattle.rules.specs.declared.Written.the-variants.{Done, Refused}
 use Rattle.rules.specs.Answers.{Answer}
-use Rattle.rules.proofs.Order.{tests, by-test}
-use Rattle.segment.specs.Tidy.{Outcome, outcome, outputAfter, tidied, tidyOf, tidyForm}
+use Rattle.rules.proofs.Order.{by-test}
+use Rattle.segment.specs.Tidy.{outcome, outputAfter, tidied, tidyOf}
 use Rattle.segment.specs.Write.{Request, wrote, writeOf}
 use Rattle.boundary.specs.declared.Reply.{Reply}
 use Rattle.boundary.specs.Boundary.{told, LookedUp, lookedUpBy, replyLeft, Sealed, sealedBy, sealedAs}

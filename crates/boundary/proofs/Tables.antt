@@ -1,15 +1,15 @@
 -- The table as C lends it: its numbers one after another, and that a table by value says what the bytes say.
 -- Assumes nothing.
-use Prim.Native.Nat.{ℕ, _+_, _-_, _*_, _/_, _%_, _≤_, _<_}
+use Prim.Native.Nat.{ℕ, _+_, _-_, _/_, _%_, _≤_, _<_}
 use mathlib.Core.Path.{_≡_, refl, sym, ap, _∙_}
-use mathlib.Core.Bool.{true, false}
+use mathlib.Core.Bool.{false}
 use mathlib.Core.Logic.{_⊎_, inl, inr, ⊎-elim}
 use mathlib.Core.List.{List, [], _++_, map}
 use native.Mathlib.Omega.{arith}
 use borrow.Author.Tests.{eqb-true, leb-true, leb-false}
 use lib.Dec.{eqb, leb}
 use lib.ListN.{length, getD, take, set, replicate, length-set, length-append, length-replicate}
-use lib.Seq.{take-all, take-at, take-length}
+use lib.Seq.{take-all, take-at}
 use Rattle.rules.proofs.Order.{tests, by-test}
 use Rattle.store.specs.declared.Table.{Table}
 use Rattle.segment.specs.Meaning.{countFrom}

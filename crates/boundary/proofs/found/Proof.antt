@@ -1,6 +1,5 @@
 -- `boundary::found` meets its contract: with a source or without.
 use borrow.Author.Needs.{needs}
-use native.Mathlib.Omega.{arith}
 use Rattle.boundary.proofs.Replies.{of-none, of-domain}
 use Rattle.boundary.proofs.found.Statement.{statement}
 use Rattle.boundary.proofs.found.Tie as tie

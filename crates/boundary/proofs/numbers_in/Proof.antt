@@ -1,6 +1,5 @@
 -- `boundary::numbers_in` meets its contract: after i turns i numbers stand in front of zeros.
 use Prim.Native.Nat.{_-_, _/_}
-use borrow.Author.Needs.{needs}
 use native.Mathlib.Omega.{arith}
 use lib.ListN.{length}
 use Rattle.boundary.proofs.Tables.{Copying, copying-none, copying-more, copying-done}
