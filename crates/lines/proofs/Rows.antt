@@ -20,6 +20,7 @@ use Rattle.segment.specs.Meaning.{gone, Row, rowKey, rowExtents, sourceOf, rowO
 use Rattle.segment.specs.Tidy.{importedOf, domainOf, flagsOf, placeOf, recordFor, digestBytes, extentTotal, largestVisibility, rowLeq}
 use Rattle.segment.specs.Write.{entryNo, extentsFrom}
 use Rattle.segment.proofs.Extents.{listed-counted}
+use Rattle.segment.proofs.Sources.{imported-again, source-again}
 use Rattle.form.proofs.Meanings.{extents-counted}
 use Rattle.keys.specs.declared.Kind.{Kind}
 use Rattle.keys.specs.declared.Kind.the-variants.{Records, Entries}
@@ -117,16 +118,10 @@ module _ (kind : Kind) (bytes list extents : List ℕ) (k : ℕ) (l : Line kind 
   row-count = ap length row-extents ∙ extents-length kind bytes extents (e .«first_extent») (e .«extent_count»)
 
   row-imported : importedOf (sourceOf (e .imported) (e .source)) ≡ e .imported
-  row-imported =
-      by-test (eqb (e .imported) 0)
-      (λ t. let z : e .imported ≡ 0 = eqb-true (e .imported) 0 t in rw t (sym z))
-      (λ t. let z : e .imported ≡ 0 → ⊥ = eqb-false (e .imported) 0 t in let n = l .counted .narrow .imported in rw t (omega arith))
+  row-imported = sym (imported-again (e .imported) (e .source) (l .counted .narrow .imported))
 
   row-source : domainOf (sourceOf (e .imported) (e .source)) ≡ e .source
-  row-source =
-      by-test (eqb (e .imported) 0)
-      (λ t. rw t (sym (l .source (eqb-true (e .imported) 0 t))))
-      (λ t. rw t)
+  row-source = sym (source-again (e .imported) (e .source) (l .source))
 
   row-flags : flagsOf (row .state) ≡ e .gone
   unfolding itemRow rowOfEntry

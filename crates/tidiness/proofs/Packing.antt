@@ -5,15 +5,15 @@ use mathlib.Core.Path.{_≡_, sym, ap, _∙_}
 use mathlib.Core.List.{List, _++_, append-nil, append-assoc}
 use native.Mathlib.Omega.{arith}
 use borrow.Author.Tests.{eqb-true, eqb-false}
-use lib.Dec.{eqb}
 use Rattle.numbers.specs.Numbers.{Bytes}
 use Rattle.rules.proofs.Order.{by-test}
 use Rattle.segment.specs.declared.record.Record.{Record}
 use Rattle.segment.specs.Format.{v3, headerOf, recordNo, recordsOffset, digestsOffset, extentsOffset}
 use Rattle.segment.specs.Check.{isGone, digestIn, sumLengths}
 use Rattle.segment.specs.Meets.{Meets, RecordMeets, MarksMeet}
-use Rattle.segment.specs.Meaning.{rowExtents, sourceOf, rowOf, rowNo, countFrom}
-use Rattle.segment.specs.Tidy.{importedOf, domainOf, packed, recordFields, recordFor, recordsBytes, digestBytes, extentListBytes, extentBytes}
+use Rattle.segment.specs.Meaning.{rowExtents, rowOf, rowNo, countFrom}
+use Rattle.segment.specs.Tidy.{packed, recordFields, recordFor, recordsBytes, digestBytes, extentListBytes, extentBytes}
+use Rattle.segment.proofs.Sources.{imported-again, source-again}
 use Rattle.form.proofs.Meanings.{extents-counted}
 use Rattle.form.proofs.States.{Says}
 use Rattle.demands.specs.Refusals.{recordIn}
@@ -21,16 +21,6 @@ use Rattle.theorems.specs.Accounts.{part}
 use Rattle.tidiness.specs.Tidiness.{sumBelow, digestLength, digestsBefore, extentsOf, extentsBefore, IsPacked}
 use Rattle.tidiness.proofs.Reading.{part-add, record-part, extents-part}
 use Rattle.tidiness.proofs.Sums.{digestPlace, extentPlace, count, row, rows, digest-long, extents-long}
-
--- ---- a source written again
-
-imported-again : (imported source : ℕ) → imported ≤ 1 → imported ≡ importedOf (sourceOf imported source)
-imported-again imported source l =
-    by-test (eqb imported 0) (λ e. rw e (eqb-true imported 0 e))
-    (λ e. let n = eqb-false imported 0 e in rw e (omega arith))
-
-source-again : (imported source : ℕ) → (imported ≡ 0 → source ≡ 0) → source ≡ domainOf (sourceOf imported source)
-source-again imported source own = by-test (eqb imported 0) (λ e. rw e (own (eqb-true imported 0 e))) (λ e. rw e)
 
 -- a part and what comes behind it, in two steps
 further : (s xs ys : List ℕ) (a m n : ℕ) → xs ≡ part s (a + m) n → part s a m ++ (xs ++ ys) ≡ part s a (m + n) ++ ys
