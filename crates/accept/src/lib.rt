@@ -13,7 +13,6 @@ use rules::Refusal;
 use rules::Verdict;
 use segment::footer::Footer;
 use segment::header::Header;
-use store::Table;
 
 // A segment's length at the least and at the most: a header and a footer; one GiB.
 const LEAST: usize = Header::SIZE + Footer::SIZE;
@@ -86,12 +85,10 @@ pub fn check_segment(pairs: &[u64], seg: &[u8]) -> Verdict
 pub fn check(pairs: &[u64], seg: &[u8]) -> Verdict
     ensures { λ r. ⌜ checkAnswer r ≡ checkOf (now (pairs .entry)) (now (seg .entry)) ⌝ }
 {
-    let tabled = Table::of(pairs);
-    if !tabled.good {
+    if !store::good(pairs) {
         return Verdict::Refused(Refusal::Table);
     }
-    let table = tabled.table;
-    let numbers = table.numbers;
-    let count = table.count;
+    let numbers = store::copied(pairs);
+    let count = pairs.len();
     check_segment(&numbers[..count], seg)
 }

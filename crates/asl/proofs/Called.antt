@@ -14,7 +14,6 @@ use Rattle.rules.specs.declared.Written.{Written}
 use Rattle.rules.specs.declared.Written.the-variants.{Refused as NotWritten}
 use Rattle.rules.specs.Answers.{numberOf, placeOf, checkAnswer, foundAnswer, writtenAnswer}
 use Rattle.rules.proofs.Settled.{found-settled}
-use Rattle.store.specs.declared.Table.{Table}
 use Rattle.segment.specs.Check.{checkOf}
 use Rattle.segment.specs.LookUp.{lookedUp, lookUpOf}
 use Rattle.segment.specs.Tidy.{Outcome, outcome, tidyOf}
@@ -24,12 +23,13 @@ use Rattle.find.proofs.Finding.{table-bad as look-up-bad}
 use Rattle.tidy.proofs.Reading.{table-bad as tidy-bad}
 use Rattle.seal.proofs.Asking.{table-bad as write-bad}
 use Rattle.boundary.specs.declared.Reply.{Reply}
-use Rattle.boundary.specs.Boundary.{tableIn, told, replyOf, lookedUpBy, replyLeft, sizeAfter, sealedBy, sealedAs}
-use Rattle.boundary.proofs.Tables.{Lent, alike-said}
+use Rattle.boundary.specs.Boundary.{told, replyOf, lookedUpBy, replyLeft, sizeAfter, sealedBy, sealedAs}
+use Rattle.lent.specs.Lent.{tableIn}
+use Rattle.lent.proofs.Taking.{Copied, alike-said}
 
-module _ (bytes : List ℕ) (t : Table) (l : Lent bytes t) where
+module _ (bytes table : List ℕ) (count : ℕ) (l : Copied bytes table count) where
   abbrev part : List ℕ
-  part = take (t .count) (t .numbers)
+  part = take count table
 
   -- check
   module _ (s : List ℕ) (v : Verdict) (c : checkAnswer v ≡ checkOf part s) where

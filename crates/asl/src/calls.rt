@@ -6,7 +6,8 @@ ghost use Rattle.segment.specs.LookUp.{lookedUp};
 ghost use Rattle.segment.specs.Tidy.{tidyOf};
 ghost use Rattle.segment.specs.Write.{writeOf};
 ghost use Rattle.seal.specs.Seal.{asked};
-ghost use Rattle.boundary.specs.Boundary.{tableIn, told, replyOf, lookedUpBy, replyLeft, headed, sealedBy, sealedAs};
+ghost use Rattle.lent.specs.Lent.{tableIn};
+ghost use Rattle.boundary.specs.Boundary.{told, replyOf, lookedUpBy, replyLeft, headed, sealedBy, sealedAs};
 use rules::Verdict;
 use segment::header::Heading;
 
@@ -14,9 +15,8 @@ use segment::header::Heading;
 pub extern "C" fn asl_check(table: &[u8], segment: &[u8], place: &mut u64) -> u64
     ensures { λ r. ⌜ told r (now (place .exit)) ≡ checkOf (tableIn (now (table .entry))) (now (segment .entry)) ⌝ }
 {
-    let t = boundary::table_in(table);
-    let numbers = t.numbers;
-    let count = t.count;
+    let numbers = lent::numbers_in(table);
+    let count = lent::count_in(table);
     match accept::check(&numbers[..count], segment) {
         Verdict::Accepted => {
             *place = 0;
@@ -38,9 +38,8 @@ pub extern "C" fn asl_look_up(
 ) -> u64
     ensures { λ r. ⌜ lookedUpBy r (now (place .exit)) (now (found .exit)) ≡ replyLeft (replyOf (lookedUp (tableIn (now (table .entry))) (now (segment .entry)) «hash_id» (now (digest .entry)))) (now (found .entry)) ⌝ }
 {
-    let t = boundary::table_in(table);
-    let numbers = t.numbers;
-    let count = t.count;
+    let numbers = lent::numbers_in(table);
+    let count = lent::count_in(table);
     let answer = find::look_up(&numbers[..count], segment, hash_id, digest);
     boundary::leave(boundary::in_numbers(answer), found, place)
 }
@@ -55,9 +54,8 @@ pub extern "C" fn asl_tidy(
 ) -> u64
     ensures { λ r. ⌜ sealedBy r (now (place .exit)) (now (size .exit)) (now (out .exit)) ≡ sealedAs (tidyOf (tableIn (now (table .entry))) (now (segment .entry)) (now (out .entry))) (now (size .entry)) ⌝ }
 {
-    let t = boundary::table_in(table);
-    let numbers = t.numbers;
-    let count = t.count;
+    let numbers = lent::numbers_in(table);
+    let count = lent::count_in(table);
     let answer = tidy::tidy(&numbers[..count], segment, out);
     boundary::settle(answer, size, place)
 }
@@ -81,9 +79,8 @@ pub extern "C" fn asl_write(
 ) -> u64
     ensures { λ r. ⌜ sealedBy r (now (place .exit)) (now (size .exit)) (now (out .exit)) ≡ sealedAs (writeOf (tableIn (now (table .entry))) (asked (headed shard «snapshot_min» «snapshot_max» domain «seal_snapshot» «seal_time») (now (bloom .entry)) (now (entries .entry)) (now (digests .entry)) (now (extents .entry))) (now (out .entry))) (now (size .entry)) ⌝ }
 {
-    let t = boundary::table_in(table);
-    let numbers = t.numbers;
-    let count = t.count;
+    let numbers = lent::numbers_in(table);
+    let count = lent::count_in(table);
     let heading = Heading {
         shard,
         snapshot_min,

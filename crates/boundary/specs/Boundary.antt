@@ -1,47 +1,22 @@
--- The C boundary: what a call is lent, what it returns, and what it leaves. A refused call changes nothing but the place.
---   tableIn        the numbers of a table that is lent as bytes, eight to a number
---   tableCopied    the same by value
+-- The C boundary: what a call returns, and what it leaves. A refused call changes nothing but the place.
 --   told           check: the number returned and the place left, as document 01's answer
 --   LookedUp       look up: the number returned, the place left and the numbers left
 --   Sealed         write and tidy: the number returned, the place and the result's size left, and every byte of the output
 -- Assumes nothing: these are definitions.
-use Prim.Native.Nat.{ℕ, _-_, _*_, _/_, _%_}
-use mathlib.Core.Bool.{Bool, cond, _&&_}
-use mathlib.Core.List.{List, [], _∷_, _++_, map}
+use Prim.Native.Nat.{ℕ}
+use mathlib.Core.Bool.{cond}
+use mathlib.Core.List.{List, [], _∷_, _++_}
 use lib.Dec.{leb, eqb}
 use lib.ListN.{length, take, replicate}
-use Rattle.numbers.specs.Numbers.{numAt, put}
+use Rattle.numbers.specs.Numbers.{put}
 use Rattle.rules.specs.declared.Refusal.the-variants.{Room}
 use Rattle.rules.specs.declared.Source.{Source}
 use Rattle.rules.specs.declared.Found.{Found}
 use Rattle.rules.specs.declared.Found.the-variants.{Absent, Gone, Present, Refused}
 use Rattle.rules.specs.Answers.{numberOf, placeOf, Answer, sourceValues, foundAnswer}
 use Rattle.segment.specs.declared.header.Heading.{Heading}
-use Rattle.store.specs.declared.Table.{Table}
-use Rattle.segment.specs.Meaning.{countFrom}
 use Rattle.segment.specs.Tidy.{Outcome}
 use Rattle.boundary.specs.declared.Reply.{Reply}
-
--- ---- the table
-
--- number k of a run of bytes, eight bytes to a number
-abbrev pub wordNo : List ℕ → ℕ → ℕ
-wordNo bytes k = numAt 8 bytes (8 * k)
-
--- the numbers of a table; where the last number is unfinished there is no table, and the empty list is none
-unfoldable pub tableIn : List ℕ → List ℕ
-tableIn bytes = cond (eqb (length bytes % 8) 0) (map (wordNo bytes) (countFrom 0 (length bytes / 8))) []
-
--- whole numbers, at most 32
-abbrev pub fitsTable : List ℕ → Bool
-fitsTable bytes = eqb (length bytes % 8) 0 && leb (length bytes) 256
-
--- the table by value, with zeros after the numbers; empty where they do not fit
-unfoldable pub tableCopied : List ℕ → Table
-tableCopied bytes =
-    cond (fitsTable bytes)
-    (record { numbers = tableIn bytes ++ replicate (32 - length bytes / 8) 0; count = length bytes / 8 })
-    (record { numbers = replicate 32 0; count = 0 })
 
 -- ---- check
 

@@ -1,62 +1,20 @@
-// What stands at the C boundary below the entry points: the table as C lends it, and the answers as C is given them.
+// What stands at the C boundary below the entry points: the answers as C is given them.
 ghost use mathlib.Core.Path.{_≡_};
-ghost use mathlib.Core.List.{_++_};
-ghost use Prim.Native.Nat.{_-_, _/_, _%_, _≤_};
-ghost use lib.ListN.{length, replicate};
+ghost use Prim.Native.Nat.{_≤_};
+ghost use lib.ListN.{length};
 ghost use Rattle.numbers.specs.Numbers.{put};
 ghost use Rattle.rules.specs.Answers.{numberOf, placeOf, writtenAnswer};
-ghost use Rattle.boundary.specs.Boundary.{tableIn, tableCopied, replied, replyOf, lookedUpBy, replyLeft, sizeAfter};
+ghost use Rattle.boundary.specs.Boundary.{replied, replyOf, lookedUpBy, replyLeft, sizeAfter};
 use rules::Found;
 use rules::Refusal;
 use rules::Source;
 use rules::Written;
-use store::Table;
 
 // Look up's answer in numbers.
 pub struct Reply {
     pub number: u64,
     pub place: u64,
     pub values: [u64; 8],
-}
-
-// The numbers of a table, each eight bytes, at the front of an array with zeros after them.
-fn numbers_in(bytes: &[u8]) -> [u64; 32]
-    requires { ⌜ (length (now bytes) % 8 ≡ 0) × (length (now bytes) ≤ 256) ⌝ }
-    ensures { λ r. ⌜ r ≡ tableIn (now (bytes .entry)) ++ replicate (32 - length (now (bytes .entry)) / 8) 0 ⌝ }
-{
-    let mut words = [0u64; 32];
-    let mut i = 0;
-    while i < bytes.len() / 8 {
-        words[i] = numbers::u64_at(bytes, 8 * i);
-        i += 1;
-    }
-    words
-}
-
-fn no_table() -> Table
-    ensures { λ r. ⌜ r ≡ record { numbers = replicate 32 0; count = 0 } ⌝ }
-{
-    Table {
-        numbers: [0u64; 32],
-        count: 0,
-    }
-}
-
-// The table that bytes hold. Where a number is unfinished, or there are too many, it is the empty one, which keeps the rule
-// as little as they do.
-pub fn table_in(bytes: &[u8]) -> Table
-    ensures { λ r. ⌜ r ≡ tableCopied (now (bytes .entry)) ⌝ }
-{
-    if bytes.len() % 8 != 0 {
-        return no_table();
-    }
-    if 256 < bytes.len() {
-        return no_table();
-    }
-    Table {
-        numbers: numbers_in(bytes),
-        count: bytes.len() / 8,
-    }
 }
 
 // Says a refusal: its place, and its number as the result.

@@ -17,7 +17,6 @@ use rules::Verdict;
 use segment::extent::Extent;
 use segment::header::Header;
 use segment::record::Record;
-use store::Table;
 
 fn source(imported: u8, domain: u32) -> Source
     ensures { λ r. ⌜ r ≡ sourceOf imported domain ⌝ }
@@ -87,13 +86,11 @@ fn look_up_under(pairs: &[u64], seg: &[u8], hash: u64, digest: &[u8]) -> Found
 pub fn look_up(pairs: &[u64], seg: &[u8], hash: u64, digest: &[u8]) -> Found
     ensures { λ r. ⌜ foundAnswer r ≡ lookUpOf (now (pairs .entry)) (now (seg .entry)) hash (now (digest .entry)) ⌝ }
 {
-    let tabled = Table::of(pairs);
-    if !tabled.good {
+    if !store::good(pairs) {
         return Found::Refused(Refusal::Table);
     }
-    let table = tabled.table;
-    let numbers = table.numbers;
-    let count = table.count;
+    let numbers = store::copied(pairs);
+    let count = pairs.len();
     look_up_under(&numbers[..count], seg, hash, digest)
 }
 

@@ -3,17 +3,16 @@
 -- Assumes nothing.
 use Prim.Native.Nat.{ℕ}
 use mathlib.Core.Path.{_≡_, refl, sym, ap, _∙_}
-use mathlib.Core.Bool.{Bool, true, false, not, _&&_, _||_, false≢true}
+use mathlib.Core.Bool.{Bool, true, false, _&&_, _||_, false≢true}
 use mathlib.Core.Logic.{_↔_}
 use mathlib.Core.List.{List, [], _∷_}
 use borrow.Author.Tests.{not-true as flag-false}
 use lib.Dec.{eqb}
-use lib.ListN.{take}
+use lib.ListN.{length, take}
 use Rattle.rules.specs.Answers.{Answer}
 use Rattle.rules.proofs.Order.{by-test, and-iff, eqb-iff}
-use Rattle.store.specs.declared.Tabled.{Tabled}
-use Rattle.store.specs.Table.{stands, goodPairs, goodTable, allows, tabledOf}
-use Rattle.store.proofs.Pairs.{Copied, is-copied}
+use Rattle.store.specs.Table.{stands, goodPairs, goodTable, allows, byValue}
+use Rattle.store.proofs.Pairs.{front-is}
 use Rattle.pairs.specs.declared.Pair.{Pair}
 use Rattle.pairs.specs.declared.Length.{Length}
 use Rattle.pairs.specs.declared.Length.the-variants.{Known, Unknown}
@@ -67,15 +66,12 @@ module _ (pairs : List Pair) (hash : ℕ) (g : goodTable (flat pairs) ≡ true) 
   )
 
 -- the same of the table by value that the flat list is copied into
-module _ (pairs : List Pair) (hash : ℕ) (t : Tabled) (e : t ≡ tabledOf (flat pairs)) (g : t .good ≡ true) where
-  copied : Copied (flat pairs) t
-  copied = is-copied (flat pairs) t e (ap not g)
+module _ (pairs : List Pair) (hash : ℕ) (numbers : List ℕ) (e : numbers ≡ byValue (flat pairs)) (g : goodTable (flat pairs) ≡ true) where
+  pub table-known-iff : (n : ℕ) → allows (take (length (flat pairs)) numbers) hash n ≡ true ↔ lengthIn pairs hash ≡ Known n
+  table-known-iff n = rw (front-is (flat pairs) numbers e) (known-iff pairs hash g n)
 
-  pub table-known-iff : (n : ℕ) → allows (take (t .table .count) (t .table .numbers)) hash n ≡ true ↔ lengthIn pairs hash ≡ Known n
-  table-known-iff n = rw (copied .front) (known-iff pairs hash (copied .good) n)
-
-  pub table-unknown-iff : ((n : ℕ) → allows (take (t .table .count) (t .table .numbers)) hash n ≡ false) ↔ lengthIn pairs hash ≡ Unknown
-  table-unknown-iff = rw (copied .front) (unknown-iff pairs hash (copied .good))
+  pub table-unknown-iff : ((n : ℕ) → allows (take (length (flat pairs)) numbers) hash n ≡ false) ↔ lengthIn pairs hash ≡ Unknown
+  table-unknown-iff = rw (front-is (flat pairs) numbers e) (unknown-iff pairs hash g)
 
 -- ---- one answer only
 

@@ -14,7 +14,6 @@ use rules::Verdict;
 use rules::Written;
 use segment::entry::Entry;
 use segment::header::Heading;
-use store::Table;
 
 // Everything but the table.
 fn write_under(
@@ -52,12 +51,10 @@ pub fn write(
 ) -> Written
     ensures { λ r. ⌜ outcome r (now (out .exit)) ≡ writeOf (now (pairs .entry)) (asked t (now (bloom .entry)) (now (entries .entry)) (now (digests .entry)) (now (extents .entry))) (now (out .entry)) ⌝ }
 {
-    let tabled = Table::of(pairs);
-    if !tabled.good {
+    if !store::good(pairs) {
         return Written::Refused(Refusal::Table);
     }
-    let table = tabled.table;
-    let numbers = table.numbers;
-    let count = table.count;
+    let numbers = store::copied(pairs);
+    let count = pairs.len();
     write_under(&numbers[..count], t, bloom, entries, digests, extents, out)
 }

@@ -3,19 +3,18 @@
 -- Assumes nothing.
 use Prim.Native.Nat.{ℕ, suc, _+_, _-_, _≤_, _<_}
 use mathlib.Core.Path.{_≡_, refl, sym, ap, _∙_}
-use mathlib.Core.Bool.{Bool, true, false, not, _&&_, false≢true}
+use mathlib.Core.Bool.{Bool, true, false, _&&_, false≢true}
 use mathlib.Core.Logic.{⊎-elim}
 use mathlib.Core.List.{List, [], _∷_, _++_}
 use native.Mathlib.Nat.{le-refl}
 use native.Mathlib.Numerals.{add-one}
 use native.Mathlib.Omega.{arith}
-use borrow.Author.Tests.{leb-true, not-true as flag-false}
+use borrow.Author.Tests.{leb-true}
 use lib.Dec.{leb, eqb}
 use lib.ListN.{length, getD, take, drop, set, replicate, length-append, length-drop, drop-of-length-le}
 use lib.Seq.{drop-cons, take-all, take-suc, set-at, take-at, length-take-le, append-snoc}
-use Rattle.rules.proofs.Order.{tests, by-test, and-iff, or-either, leb-iff, ltb-iff, eqb-iff}
-use Rattle.store.specs.declared.Tabled.{Tabled}
-use Rattle.store.specs.Table.{stands, goodPairs, goodTable, allows, tabledOf}
+use Rattle.rules.proofs.Order.{tests, and-iff, or-either, leb-iff, ltb-iff, eqb-iff}
+use Rattle.store.specs.Table.{stands, goodPairs, goodTable, allows, byValue}
 
 -- a loop over p has come to k, and f says of p what it says of the rest
 pub record Rest (f : List ℕ → Bool) (p : List ℕ) (k : ℕ) : Type 0 where
@@ -167,31 +166,15 @@ unfolding goodTable
 sized p e =
     leb-true (length p) 32 (and-iff (leb (length p) 32) (goodPairs p) .0 (and-iff (leb 1 (length p)) (leb (length p) 32 && goodPairs p) .0 e .1) .0)
 
-pub no-table : (p : List ℕ) → goodTable p ≡ false → record { good = false; table = record { numbers = replicate 32 0; count = 0 } } ≡ tabledOf p
-unfolding tabledOf
-no-table p e = rw e
+-- what a caller knows of a table that was copied: the list stands in front
+module _ (p numbers : List ℕ) (e : numbers ≡ byValue p) where
+  pub in-front : length p ≤ length numbers
+  unfolding byValue
+  in-front = rw e (simp length-append (omega arith))
 
-pub a-table : (p numbers : List ℕ) → goodTable p ≡ true → numbers ≡ p ++ replicate (32 - length p) 0
-    → record { good = true; table = record { numbers = numbers; count = length p } } ≡ tabledOf p
-unfolding tabledOf
-a-table p numbers e f = rw (e, f)
+  pub front-is : take (length p) numbers ≡ p
+  unfolding byValue
+  front-is = rw e (take-at p (replicate (32 - length p) 0) (length p) refl)
 
--- what a caller knows of a list that was copied: it is no table, or it stands in front
-pub record Copied (p : List ℕ) (t : Tabled) : Type 0 where
-  pub good : goodTable p ≡ true
-  pub within : t .table .count ≤ length (t .table .numbers)
-  pub front : take (t .table .count) (t .table .numbers) ≡ p
-
-pub not-copied : (p : List ℕ) (t : Tabled) → t ≡ tabledOf p → not (t .good) ≡ true → goodTable p ≡ false
-unfolding tabledOf
-not-copied p t e f =
-    by-test (goodTable p)
-    (λ g. let q : t .good ≡ true = ap (λ (x : Tabled). x .good) e ∙ rw g in let z : true ≡ false = sym q ∙ flag-false (t .good) f in cc)
-    (λ g. g)
-
-pub is-copied : (p : List ℕ) (t : Tabled) → t ≡ tabledOf p → not (t .good) ≡ false → Copied p t
-unfolding tabledOf
-is-copied p t e f =
-    by-test (goodTable p)
-    (λ g. rw e (rw g (record { good = g; within = simp length-append (omega arith); front = take-at p (replicate (32 - length p) 0) (length p) refl })))
-    (λ g. let q : t .good ≡ false = ap (λ (x : Tabled). x .good) e ∙ rw g in let z : _≡_ {A = ℕ} 0 1 = cc in absurd (omega arith))
+  pub front-long : length p ≡ length (take (length p) numbers)
+  front-long = sym (ap length front-is)

@@ -2,7 +2,7 @@
 -- stands twice. It is lent as a flat list of numbers, two to a pair.
 --   goodTable   the list is such a table
 --   allows      does it allow this hash id with this length
---   tabledOf    the table by value that a list is copied into
+--   byValue     the table by value that a list is copied into
 -- Assumes nothing: these are definitions.
 use Prim.Native.Nat.{ℕ, _-_}
 use mathlib.Core.Bool.{Bool, true, false, cond, _&&_, _||_, not}
@@ -12,7 +12,6 @@ use lib.ListN.{length, replicate}
 use Rattle.rules.specs.declared.Refusal.the-variants.{Table}
 use Rattle.rules.specs.declared.Verdict.{Verdict}
 use Rattle.rules.specs.Rules.{must}
-use Rattle.store.specs.declared.Tabled.{Tabled}
 
 -- a hash id stands in a list of pairs
 unfoldable pub stands : List ℕ → ℕ → Bool
@@ -43,8 +42,5 @@ unfoldable pub tableVerdict : List ℕ → Verdict
 tableVerdict pairs = must (goodTable pairs) Table
 
 -- a list copied into a table by value, with zeros after it
-unfoldable pub tabledOf : List ℕ → Tabled
-tabledOf pairs =
-    cond (goodTable pairs)
-    (record { good = true; table = record { numbers = pairs ++ replicate (32 - length pairs) 0; count = length pairs } })
-    (record { good = false; table = record { numbers = replicate 32 0; count = 0 } })
+unfoldable pub byValue : List ℕ → List ℕ
+byValue pairs = pairs ++ replicate (32 - length pairs) 0

@@ -1,22 +1,9 @@
 // The store's table: pairs of a hash id and a digest length, lent as a flat list of numbers, and copied into a table
-// that goes by value. Everyone asks it one question: does it allow this hash id with this length.
+// by value, an array of 32 numbers. Everyone asks it one question: does it allow this hash id with this length.
 ghost use mathlib.Core.Path.{_≡_};
-ghost use mathlib.Core.List.{_++_};
-ghost use Prim.Native.Nat.{_-_, _≤_};
-ghost use lib.ListN.{length, replicate};
-ghost use Rattle.store.specs.Table.{stands, goodPairs, goodTable, allows, tabledOf};
-
-// At most 16 pairs; the first `count` numbers count.
-pub struct Table {
-    pub numbers: [u64; 32],
-    pub count: usize,
-}
-
-// Whether a list is a table, and the table, which is empty where it is not.
-pub struct Tabled {
-    pub good: bool,
-    pub table: Table,
-}
+ghost use Prim.Native.Nat.{_≤_};
+ghost use lib.ListN.{length};
+ghost use Rattle.store.specs.Table.{stands, goodPairs, goodTable, allows, byValue};
 
 // Whether a hash id stands in a list of pairs.
 fn stands(pairs: &[u64], hash: u64) -> bool
@@ -62,7 +49,7 @@ fn good_pairs(pairs: &[u64]) -> bool
 }
 
 // Whether a list is a table.
-fn good(pairs: &[u64]) -> bool
+pub fn good(pairs: &[u64]) -> bool
     ensures { λ r. ⌜ r ≡ goodTable (now (pairs .entry)) ⌝ }
 {
     if pairs.len() < 1 {
@@ -74,10 +61,11 @@ fn good(pairs: &[u64]) -> bool
     good_pairs(pairs)
 }
 
-// A list copied to the front of an array, with zeros after it.
-fn copied(pairs: &[u64]) -> [u64; 32]
+// The table by value: a list copied to the front of an array, with zeros after it. An array has no length of its own, and the
+// caller lends as many of its numbers as the list has.
+pub fn copied(pairs: &[u64]) -> [u64; 32]
     requires { ⌜ length (now pairs) ≤ 32 ⌝ }
-    ensures { λ r. ⌜ r ≡ now (pairs .entry) ++ replicate (32 - length (now (pairs .entry))) 0 ⌝ }
+    ensures { λ r. ⌜ r ≡ byValue (now (pairs .entry)) ⌝ }
 {
     let mut numbers = [0u64; 32];
     let mut i = 0;
@@ -86,25 +74,6 @@ fn copied(pairs: &[u64]) -> [u64; 32]
         i += 1;
     }
     numbers
-}
-
-impl Table {
-    // The table that a lent list is copied into, where the list keeps the table's rule.
-    pub fn of(pairs: &[u64]) -> Tabled
-        ensures { λ r. ⌜ r ≡ tabledOf (now (pairs .entry)) ⌝ }
-    {
-        if !good(pairs) {
-            let table = Table {
-                numbers: [0u64; 32],
-                count: 0,
-            };
-            return Tabled { good: false, table };
-        }
-        let numbers = copied(pairs);
-        let count = pairs.len();
-        let table = Table { numbers, count };
-        Tabled { good: true, table }
-    }
 }
 
 // Whether a list of pairs allows a hash id with a length.

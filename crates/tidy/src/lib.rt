@@ -16,7 +16,6 @@ use rules::Written;
 use segment::footer::Footer;
 use segment::header::Header;
 use segment::header::Heading;
-use store::Table;
 
 // The numbers of a segment that its tidy form keeps.
 fn heading_of(seg: &[u8], h: Header) -> Heading
@@ -66,12 +65,10 @@ fn tidy_under(pairs: &[u64], seg: &[u8], out: &mut [u8]) -> Written
 pub fn tidy(pairs: &[u64], seg: &[u8], out: &mut [u8]) -> Written
     ensures { λ r. ⌜ outcome r (now (out .exit)) ≡ tidyOf (now (pairs .entry)) (now (seg .entry)) (now (out .entry)) ⌝ }
 {
-    let tabled = Table::of(pairs);
-    if !tabled.good {
+    if !store::good(pairs) {
         return Written::Refused(Refusal::Table);
     }
-    let table = tabled.table;
-    let numbers = table.numbers;
-    let count = table.count;
+    let numbers = store::copied(pairs);
+    let count = pairs.len();
     tidy_under(&numbers[..count], seg, out)
 }

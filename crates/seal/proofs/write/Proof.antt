@@ -1,24 +1,26 @@
 -- `seal::write` meets its contract: the table, and then the rest under the copied table.
-use mathlib.Core.Path.{sym, ap, _∙_}
+use mathlib.Core.Path.{_≡_, ap, _∙_}
+use mathlib.Core.Bool.{true}
 use borrow.Author.Needs.{needs}
-use lib.Seq.{length-take-le}
+use Rattle.rules.proofs.Order.{was-true, was-false}
 use Rattle.store.specs.Table.{goodTable}
-use Rattle.store.proofs.Pairs.{Copied, not-copied, is-copied}
+use Rattle.store.proofs.Pairs.{sized, in-front, front-is, front-long}
 use Rattle.seal.proofs.Asking.{table-bad, table-good}
 use Rattle.seal.proofs.write.Statement.{statement}
 use Rattle.seal.proofs.write.Tie as tie
 
-copied : (c : tie.Else1) → Copied (c .before .before .before .before .before .before .before .before .before .args .pairs .now) (c .before .before .of .result)
-copied c = is-copied _ _ (c .before .before .of .ensures) (c .if1 .left)
+good : (c : tie.Else1) → goodTable (c .before .before .before .before .before .before .before .before .args .pairs .now) ≡ true
+good c = was-true (c .before .good2 .ensures) (c .if1 .left)
 
 pub write-spec : {M : Type 1} → statement M
 write-spec =
     tie.close
     (tie.spec
     (λ c κs. search needs)
-    (λ c. table-bad _ _ _ (not-copied _ _ (c .before .before .of .ensures) (c .if1 .taken)))
-    (λ c. copied (c .before .before) .within)
-    (λ c. sym (length-take-le _ _ (copied (c .before .before .before) .within)))
-    (λ c κs. let t = copied (c .before .before .before .before) in ap goodTable (t .front) ∙ t .good)
+    (λ c. table-bad _ _ _ (was-false (c .before .good2 .ensures) (c .if1 .taken)))
+    (λ c κs. sized _ (good c))
+    (λ c. in-front _ _ (c .copied .ensures))
+    (λ c. front-long _ _ (c .before .copied .ensures))
+    (λ c κs. ap goodTable (front-is _ _ (c .before .before .copied .ensures)) ∙ good (c .before .before .before))
     (λ c. search needs)
-    (λ c. let t = copied (c .before .before .before .before .before .before .before) in table-good _ _ _ _ _ _ (t .good) (t .front) (c .before .before .write-under .ensures)))
+    (λ c. let at = c .before .before in table-good _ _ _ _ _ _ (good (at .before .before .before .before)) (front-is _ _ (at .before .before .before .copied .ensures)) (at .write-under .ensures)))

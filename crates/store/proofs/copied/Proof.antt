@@ -6,6 +6,7 @@ use borrow.Author.Needs.{needs}
 use native.Mathlib.Omega.{arith}
 use lib.ListN.{length, take, replicate}
 use lib.Seq.{take-length}
+use Rattle.store.specs.Table.{byValue}
 use Rattle.store.proofs.Pairs.{copied-more}
 use Rattle.store.proofs.copied.Statement.{statement}
 use Rattle.store.proofs.copied.Tie as tie
@@ -22,6 +23,7 @@ goes-on c =
     (omega arith, rw (at .loop .inv .1) (copied-more 32 (at .before .args .pairs .now) (at .loop .i) (omega arith) (omega arith)))
 
 ends : tie.Need-returns Inv-loop μ-loop
+unfolding byValue
 ends c =
     let at = c .before in
     let e : at .loop .i ≡ length (at .before .args .pairs .now) = omega arith in
