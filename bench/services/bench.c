@@ -117,7 +117,7 @@ static void make(struct job *j, size_t records) {
         }
     }
     j->extents_count = ASL_EXTENT_NUMBERS * extents;
-    j->room = HEADER + (RECORD + DIGEST) * records + 16 * extents + FOOTER + 8;
+    j->room = HEADER + (RECORD + DIGEST) * records + ASL_EXTENT_SIZE * extents + FOOTER + 8;
     j->out = need(j->room);
     uint64_t length = 0, again = 0;
     must(write_with(BY_EIGHT, j, &length) == ASL_OK, "the C program does not write");
@@ -153,9 +153,30 @@ static int by_digest(const void *a, const void *b) {
                   sorted_digests + ((const uint64_t *)b)[ASL_ENTRY_DIGEST_START], DIGEST);
 }
 
-static void sort_entries(struct job *j) {
+/* The request that the tidy segment is read back as: digests and extents stand in the order of the entries too. */
+static void ask_for_segment(struct job *j) {
     sorted_digests = j->digests;
     qsort(j->entries, j->records, 8 * ASL_ENTRY_NUMBERS, by_digest);
+    size_t extents = 0;
+    for (size_t k = 0; k < j->records; k++) {
+        size_t count = j->entries[ASL_ENTRY_NUMBERS * k + ASL_ENTRY_EXTENT_COUNT];
+        put_entry(j, k, extents, count);
+        extents += count;
+    }
+    const uint8_t *digests = j->segment + HEADER + RECORD * j->records, *listed = digests + j->digests_size;
+    memcpy(j->digests, digests, j->digests_size);
+    for (size_t i = 0; i < extents; i++, listed += ASL_EXTENT_SIZE) {
+        uint64_t *x = j->extents + ASL_EXTENT_NUMBERS * i;
+        uint32_t offset, length;
+        memcpy(&x[ASL_EXTENT_BLOCK], listed, 8);
+        memcpy(&offset, listed + 8, 4);
+        memcpy(&length, listed + 12, 4);
+        x[ASL_EXTENT_OFFSET] = offset;
+        x[ASL_EXTENT_LENGTH] = length;
+    }
+    uint64_t length = 0;
+    must(write_with(LIBRARY, j, &length) == ASL_OK && length == j->size && !memcmp(j->segment, j->out, length),
+         "the segment is not written back as it is");
 }
 
 static volatile uint64_t kept; /* so that no call is left out */
@@ -264,7 +285,7 @@ int main(int argc, char **argv) {
         must(asl_tidy((const uint8_t *)PAIRS, sizeof PAIRS, j.segment, j.size, j.out, j.room, &(uint64_t){0},
                       &(uint64_t){0}) == ASL_OK, "tidy refuses");
         memcpy(j.segment, j.out, j.size);
-        sort_entries(&j);
+        ask_for_segment(&j);
         measure_all(&j, "tidy");
         free(j.entries), free(j.extents), free(j.digests), free(j.segment), free(j.out);
     }

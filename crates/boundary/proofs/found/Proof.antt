@@ -11,5 +11,5 @@ found-spec =
     (λ c. search needs)
     (λ c. search needs)
     (λ c. search needs)
-    (λ c. of-none _ _ _ _ _ _ _ (cc))
-    (λ c. of-domain _ _ _ _ _ _ _ (c .before .source .given .0 .0) (cc)))
+    (λ c. of-none _ _ _ _ _ _ _ (c .enum-told .given .1))
+    (λ c. of-domain _ _ _ _ _ _ _ (c .before .source .given .0 .0) (c .before .source .given .1)))

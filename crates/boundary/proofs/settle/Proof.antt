@@ -13,4 +13,4 @@ settle-spec =
     (λ c. search needs)
     (λ c κs. search needs)
     (λ c. search needs)
-    (λ c. not-written (c .before .before .before .before .before .args .w) {x = (c .before .before .before .w2 .given .0 .0)} (cc) (c .refuse .ensures .0) (c .refuse .ensures .1) refl))
+    (λ c. not-written (c .before .before .before .before .before .args .w) {x = (c .before .before .before .w2 .given .0 .0)} (c .before .before .before .w2 .given .1) (c .refuse .ensures .0) (c .refuse .ensures .1) refl))

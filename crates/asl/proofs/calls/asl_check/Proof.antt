@@ -20,5 +20,5 @@ asl-check-spec =
     (λ c. search needs)
     (λ c. search needs)
     (λ c κs. search needs)
-    (λ c. told-accepted _ _ _ (known (c .before .before .before .before)) _ (c .before .before .check .result) (c .before .before .check .ensures) (cc))
-    (λ c. told-refused _ _ _ (known (c .before .before .before .before .before .before .before)) _ (c .before .before .before .before .before .check .result) (c .before .before .before .before .before .check .ensures) {x = (c .before .before .before .r .given .0 .0)} (cc) (c .refuse .ensures .0) (c .refuse .ensures .1)))
+    (λ c. told-accepted _ _ _ (known (c .before .before .before .before)) _ (c .before .before .check .result) (c .before .before .check .ensures) (c .enum-told .given .1))
+    (λ c. told-refused _ _ _ (known (c .before .before .before .before .before .before .before)) _ (c .before .before .before .before .before .check .result) (c .before .before .before .before .before .check .ensures) {x = (c .before .before .before .r .given .0 .0)} (c .before .before .before .r .given .1) (c .refuse .ensures .0) (c .refuse .ensures .1)))
