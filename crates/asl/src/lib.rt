@@ -3,7 +3,7 @@
 pub mod calls;
 
 pub use accept::check;
-pub use find::extents_of;
+pub use extents::extents_of;
 pub use find::look_up;
 pub use pairs::Length;
 pub use pairs::Pair;

@@ -1,20 +1,18 @@
 // Look up: whether a segment has a record with a key, and what that record says. The whole check is made in every call, so that absent means
 // that no record of an accepted segment has the key.
 ghost use mathlib.Core.Path.{_≡_};
-ghost use lib.ListN.{take, drop};
 ghost use Rattle.rules.specs.declared.Verdict.the-variants.{Accepted};
 ghost use Rattle.rules.specs.Answers.{foundAnswer};
 ghost use Rattle.segment.specs.Format.{v3, headerOf};
 ghost use Rattle.segment.specs.Keys.{keyOf};
 ghost use Rattle.segment.specs.Check.{segmentVerdict};
 ghost use Rattle.segment.specs.Meaning.{sourceOf};
-ghost use Rattle.segment.specs.LookUp.{recordFound, foundIn, foundUnder, lookUpOf, extentsPart};
+ghost use Rattle.segment.specs.LookUp.{recordFound, foundIn, foundUnder, lookUpOf};
 use keys::Kind;
 use rules::Found;
 use rules::Refusal;
 use rules::Source;
 use rules::Verdict;
-use segment::extent::Extent;
 use segment::header::Header;
 use segment::record::Record;
 
@@ -92,42 +90,4 @@ pub fn look_up(pairs: &[u64], seg: &[u8], hash: u64, digest: &[u8]) -> Found
     let numbers = store::copied(pairs);
     let count = pairs.len();
     look_up_under(&numbers[..count], seg, hash, digest)
-}
-
-// The bytes from a place on, as many as are asked for or as there are.
-fn part_from(seg: &[u8], start: usize, size: usize) -> &[u8]
-    ensures { λ r. ⌜ now r ≡ take size (drop start (now (seg .entry))) ⌝ }
-{
-    if seg.len() < start {
-        let end = seg.len();
-        return &seg[end..];
-    }
-    if seg.len() - start < size {
-        return &seg[start..];
-    }
-    let end = start + size;
-    &seg[start..end]
-}
-
-// The part of the lent segment that holds the extents of an answer: none, unless a record is present.
-pub fn extents_of(seg: &[u8], answer: Found) -> &[u8]
-    ensures { λ r. ⌜ now r ≡ extentsPart answer (now (seg .entry)) ⌝ }
-{
-    match answer {
-        Found::Absent => part_from(seg, 0, 0),
-        Found::Gone {
-            visibility,
-            domain,
-            source,
-        } => part_from(seg, 0, 0),
-        Found::Present {
-            visibility,
-            domain,
-            source,
-            total,
-            start,
-            count,
-        } => { part_from(seg, start as usize, Extent::SIZE * (count as usize)) }
-        Found::Refused(r) => part_from(seg, 0, 0),
-    }
 }

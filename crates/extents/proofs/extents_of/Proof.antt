@@ -1,9 +1,9 @@
--- `find::extents_of` meets its contract: each answer's own part.
+-- `extents::extents_of` meets its contract: each answer's own part.
 use borrow.Author.Needs.{needs}
 use native.Mathlib.Omega.{arith}
-use Rattle.find.proofs.Parts.{part-absent, part-gone, part-present, part-refused}
-use Rattle.find.proofs.extents_of.Statement.{statement}
-use Rattle.find.proofs.extents_of.Tie as tie
+use Rattle.extents.proofs.Parts.{part-absent, part-gone, part-present, part-refused}
+use Rattle.extents.proofs.extents_of.Statement.{statement}
+use Rattle.extents.proofs.extents_of.Tie as tie
 
 pub extents-of-spec : {M : Type 1} → statement M
 extents-of-spec =

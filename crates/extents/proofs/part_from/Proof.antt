@@ -1,9 +1,9 @@
--- `find::part_from` meets its contract: past the end, to the end, or all there.
+-- `extents::part_from` meets its contract: past the end, to the end, or all there.
 use borrow.Author.Needs.{needs}
 use native.Mathlib.Omega.{arith}
-use Rattle.find.proofs.Parts.{past-end, to-end, all-there}
-use Rattle.find.proofs.part_from.Statement.{statement}
-use Rattle.find.proofs.part_from.Tie as tie
+use Rattle.extents.proofs.Parts.{past-end, to-end, all-there}
+use Rattle.extents.proofs.part_from.Statement.{statement}
+use Rattle.extents.proofs.part_from.Tie as tie
 
 pub part-from-spec : {M : Type 1} → statement M
 part-from-spec =
