@@ -11,11 +11,11 @@ entry-of-spec =
     tie.close
     (tie.spec
     (λ c. search needs)
-    (λ c. let s = record-stands _ _ _ _ (c .before .kind .given .0 .0) (cc) (c .before .before .before .before .before .pre) in omega arith)
-    (λ c. let s = record-stands _ _ _ _ (c .before .kind .given .0 .0) (cc) (c .before .before .before .before .before .pre) in omega arith)
-    (λ c κs. let s = record-stands _ _ _ _ (c .before .kind .given .0 .0) (cc) (c .before .before .before .before .before .pre) in omega arith)
+    (λ c. let s = record-stands _ _ _ _ (c .before .kind .given .0 .0) (c .before .kind .given .1) (c .before .before .before .before .before .pre) in omega arith)
+    (λ c. let s = record-stands _ _ _ _ (c .before .kind .given .0 .0) (c .before .kind .given .1) (c .before .before .before .before .before .pre) in omega arith)
+    (λ c κs. let s = record-stands _ _ _ _ (c .before .kind .given .0 .0) (c .before .kind .given .1) (c .before .before .before .before .before .pre) in omega arith)
     (λ c κs. search needs)
     (λ c. search needs)
-    (λ c κs. let s = entry-stands _ _ _ _ (cc) (c .before .before .before .before .pre) in omega arith)
-    (λ c. record-entry _ _ _ _ (c .before .before .before .kind .given .0 .0) _ _ (cc) (c .before .at .ensures) (c .entry-of-record .ensures))
-    (λ c. entry-entry _ _ _ _ _ (cc) (c .at2 .ensures)))
+    (λ c κs. let s = entry-stands _ _ _ _ (c .enum-told .given .1) (c .before .before .before .before .pre) in omega arith)
+    (λ c. record-entry _ _ _ _ (c .before .before .before .kind .given .0 .0) _ _ (c .before .before .before .kind .given .1) (c .before .at .ensures) (c .entry-of-record .ensures))
+    (λ c. entry-entry _ _ _ _ _ (c .before .enum-told .given .1) (c .at2 .ensures)))

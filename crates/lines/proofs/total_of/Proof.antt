@@ -11,14 +11,14 @@ total-of-spec =
     tie.close
     (tie.spec
     (λ c. search needs)
-    (λ c. let s = record-stands _ _ _ _ (c .before .kind .given .0 .0) (cc) (c .before .before .before .before .before .before .pre .counted .item) in omega arith)
-    (λ c. let s = record-stands _ _ _ _ (c .before .kind .given .0 .0) (cc) (c .before .before .before .before .before .before .pre .counted .item) in omega arith)
-    (λ c κs. let s = record-stands _ _ _ _ (c .before .kind .given .0 .0) (cc) (c .before .before .before .before .before .before .pre .counted .item) in omega arith)
+    (λ c. let s = record-stands _ _ _ _ (c .before .kind .given .0 .0) (c .before .kind .given .1) (c .before .before .before .before .before .before .pre .counted .item) in omega arith)
+    (λ c. let s = record-stands _ _ _ _ (c .before .kind .given .0 .0) (c .before .kind .given .1) (c .before .before .before .before .before .before .pre .counted .item) in omega arith)
+    (λ c κs. let s = record-stands _ _ _ _ (c .before .kind .given .0 .0) (c .before .kind .given .1) (c .before .before .before .before .before .before .pre .counted .item) in omega arith)
     (λ c. search needs)
-    (λ c κs. let s = entry-stands _ _ _ _ (cc) (c .before .before .before .before .before .pre .counted .item) in omega arith)
+    (λ c κs. let s = entry-stands _ _ _ _ (c .enum-told .given .1) (c .before .before .before .before .before .pre .counted .item) in omega arith)
     (λ c κs. let l = c .before .before .before .before .before .before .pre in (
-      listed-held _ _ _ _ _ _ (cc) (c .at .ensures) l,
-      listed-fits _ _ _ _ _ _ (cc) (c .at .ensures) l,
+      listed-held _ _ _ _ _ _ (c .before .enum-told .given .1) (c .at .ensures) l,
+      listed-fits _ _ _ _ _ _ (c .before .enum-told .given .1) (c .at .ensures) l,
     ))
-    (λ c. record-total _ _ _ _ _ (c .before .before .kind .given .0 .0) _ (cc) (c .total-length .ensures))
-    (λ c. entry-total _ _ _ _ _ _ (cc) (c .before .at .ensures) _ (c .sum-listed .ensures)))
+    (λ c. record-total _ _ _ _ _ (c .before .before .kind .given .0 .0) _ (c .before .before .kind .given .1) (c .total-length .ensures))
+    (λ c. entry-total _ _ _ _ _ _ (c .before .before .enum-told .given .1) (c .before .at .ensures) _ (c .sum-listed .ensures)))
