@@ -57,7 +57,7 @@ fn find(pairs: &[u64], seg: &[u8], hash: u64, digest: &[u8]) -> Found
     let count = h.record_count as usize;
     let mut k = 0;
     while k < count {
-        if keys::key_is(Kind::Records(first), seg, pairs, k, hash, digest) {
+        if alike::key_is(Kind::Records(first), seg, pairs, k, hash, digest) {
             return found(Record::at(seg, first + Record::SIZE * k));
         }
         k += 1;

@@ -27,7 +27,7 @@ pub fn keys_climb(kind: Kind, bytes: &[u8], list: &[u64], n: usize) -> bool
 {
     let mut i = 1;
     while i < n {
-        if keys::comes_first(kind, bytes, list, i, i - 1) {
+        if compare::comes_first(kind, bytes, list, i, i - 1) {
             return false;
         }
         i += 1;
@@ -139,7 +139,7 @@ fn scan_keys(kind: Kind, bytes: &[u8], list: &[u64], known: usize, n: usize) -> 
         }
         let mut j = 0;
         while j < i {
-            if keys::same_key(kind, bytes, list, i, j) {
+            if alike::same_key(kind, bytes, list, i, j) {
                 break 'pairs i;
             }
             j += 1;

@@ -84,5 +84,5 @@ pub fn comes_first(
     if y < x {
         return false;
     }
-    keys::comes_first(kind, bytes, list, i, j)
+    compare::comes_first(kind, bytes, list, i, j)
 }

@@ -1,12 +1,9 @@
 // Keys of items, over two kinds of source: the records of a segment, and the entries that write is lent. Both kinds have their
-// digests in a run of bytes. One function for each column knows the kinds; nothing above it does. Keys of two items are told
-// apart and put in order.
+// digests in a run of bytes. One function for each column knows the kinds; nothing above it does.
 ghost use mathlib.Core.Path.{_≡_};
 ghost use Prim.Native.Nat.{_+_, _≤_};
 ghost use lib.ListN.{length};
-ghost use Rattle.segment.specs.Keys.{keyOf, eqList, lexLeq, sameKey};
-ghost use Rattle.keys.specs.Items.{recordSpan, entrySpan, Item, itemHash, itemSpan, itemDigest, itemKey};
-ghost use Rattle.keys.specs.Lex.{lex, itemLeq};
+ghost use Rattle.keys.specs.Items.{recordSpan, entrySpan, Item, itemHash, itemSpan, itemDigest};
 use parts::record;
 use segment::record::Record;
 
@@ -69,99 +66,4 @@ pub fn digest<'a>(kind: Kind, bytes: &'a [u8], list: &[u64], k: usize) -> &'a [u
     let start = span.start;
     let end = start + span.size;
     &bytes[start..end]
-}
-
-fn same_bytes(a: &[u8], b: &[u8]) -> bool
-    ensures { λ r. ⌜ r ≡ eqList (now (a .entry)) (now (b .entry)) ⌝ }
-{
-    if a.len() != b.len() {
-        return false;
-    }
-    let mut i = 0;
-    while i < a.len() {
-        if a[i] != b[i] {
-            return false;
-        }
-        i += 1;
-    }
-    true
-}
-
-pub fn same_key(kind: Kind, bytes: &[u8], list: &[u64], i: usize, j: usize) -> bool
-    requires { ⌜ Item kind (now bytes) (now list) i ⌝ }
-    requires { ⌜ Item kind (now bytes) (now list) j ⌝ }
-    ensures { λ r. ⌜ r ≡ sameKey (itemKey kind (now (bytes .entry)) (now (list .entry))) i j ⌝ }
-{
-    if hash_of(kind, bytes, list, i) != hash_of(kind, bytes, list, j) {
-        return false;
-    }
-    same_bytes(digest(kind, bytes, list, i), digest(kind, bytes, list, j))
-}
-
-// Whether an item has the key of a hash id and a digest.
-pub fn key_is(kind: Kind, bytes: &[u8], list: &[u64], k: usize, hash: u64, wanted: &[u8]) -> bool
-    requires { ⌜ Item kind (now bytes) (now list) k ⌝ }
-    ensures { λ r. ⌜ r ≡ eqList (itemKey kind (now (bytes .entry)) (now (list .entry)) k) (keyOf hash (now (wanted .entry))) ⌝ }
-{
-    if hash_of(kind, bytes, list, k) != hash {
-        return false;
-    }
-    same_bytes(digest(kind, bytes, list, k), wanted)
-}
-
-// How two lists of bytes stand to each other.
-pub enum Compared {
-    Less,
-    Equal,
-    Greater,
-}
-
-// The first unlike bytes decide; where one list is the other's beginning, it is the lesser.
-pub fn compare_bytes(a: &[u8], b: &[u8]) -> Compared
-    ensures { λ r. ⌜ r ≡ lex (now (a .entry)) (now (b .entry)) ⌝ }
-{
-    let mut k = 0;
-    while k < a.len() {
-        if b.len() <= k {
-            return Compared::Greater;
-        }
-        if a[k] < b[k] {
-            return Compared::Less;
-        }
-        if b[k] < a[k] {
-            return Compared::Greater;
-        }
-        k += 1;
-    }
-    if k < b.len() {
-        return Compared::Less;
-    }
-    Compared::Equal
-}
-
-fn no_later(a: &[u8], b: &[u8]) -> bool
-    ensures { λ r. ⌜ r ≡ lexLeq (now (a .entry)) (now (b .entry)) ⌝ }
-{
-    match compare_bytes(a, b) {
-        Compared::Less => true,
-        Compared::Equal => true,
-        Compared::Greater => false,
-    }
-}
-
-// Whether item i comes no later than item j: hash ids as numbers first, then the digests' bytes.
-pub fn comes_first(kind: Kind, bytes: &[u8], list: &[u64], i: usize, j: usize) -> bool
-    requires { ⌜ Item kind (now bytes) (now list) i ⌝ }
-    requires { ⌜ Item kind (now bytes) (now list) j ⌝ }
-    ensures { λ r. ⌜ r ≡ itemLeq kind (now (bytes .entry)) (now (list .entry)) i j ⌝ }
-{
-    let x = hash_of(kind, bytes, list, i);
-    let y = hash_of(kind, bytes, list, j);
-    if x < y {
-        return true;
-    }
-    if y < x {
-        return false;
-    }
-    no_later(digest(kind, bytes, list, i), digest(kind, bytes, list, j))
 }

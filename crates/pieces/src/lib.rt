@@ -51,7 +51,7 @@ fn put_record(seg: &[u8], h: Header, k: usize, at: usize, out: &mut [u8]) -> Sto
     let r = Record::at(seg, first + Record::SIZE * k);
     let start = r.digest_offset.0 as usize;
     let stop = start + r.digest_length as usize;
-    let end = columns::put_record(k, r, &seg[start..stop], at, out);
+    let end = rows::put_record(k, r, &seg[start..stop], at, out);
     Stop {
         next: Place::RecordLine(k + 1),
         end,

@@ -2,22 +2,20 @@
 use native.Mathlib.Omega.{arith}
 use borrow.Author.Needs.{needs}
 use Rattle.digits.proofs.Laws.{retold}
-use Rattle.columns.proofs.Laws.{three, extent-line}
+use Rattle.columns.proofs.Laws.{two, extent-line}
 use Rattle.columns.proofs.put_extent.Statement.{statement}
 use Rattle.columns.proofs.put_extent.Tie as tie
 
 returns : tie.Need-returns
 returns c =
-    let third = c .before .before in
-    let second = third .before .before .before .before in
+    let second = c .before .before in
     let first = second .before .before .before .before in
-    retold (three (first .put-number .ensures) (second .put-number2 .ensures) (third .put-slice .ensures) 105 (omega arith)) (extent-line _ _ _) (omega arith)
+    retold (two (first .put-pair .ensures) (second .put-slice .ensures) 105 (omega arith)) (extent-line _ _ _) (omega arith)
 
 pub put-extent-spec : {M : Type 1} → statement M
 put-extent-spec =
     tie.close
     (tie.spec
-    (λ c κs. search needs)
     (λ c κs. search needs)
     (λ c κs. search needs)
     (λ c. search needs)

@@ -2,18 +2,16 @@
 use native.Mathlib.Omega.{arith}
 use borrow.Author.Needs.{needs}
 use Rattle.digits.proofs.Laws.{retold}
-use Rattle.columns.proofs.Laws.{four, refusal-line}
+use Rattle.columns.proofs.Laws.{two, refusal-line}
 use Rattle.columns.proofs.put_refusal.Statement.{statement}
 use Rattle.columns.proofs.put_refusal.Tie as tie
 
 returns : tie.Need-returns
 returns c =
-    let third = c .before .before .before in
-    let second = third .before .before .before in
-    let first = second .before .before .before in
+    let first = c .before .before .before .before in
     retold
-    (four (first .put-word .ensures) (second .put-number .ensures) (third .put-word2 .ensures) (c .put-number2 .ensures) 53 (omega arith))
-    (refusal-line _ _ _ (second .before .before .number .ensures) (c .before .before .place .ensures)) (omega arith)
+    (two (first .put-named .ensures) (c .put-named2 .ensures) 53 (omega arith))
+    (refusal-line _ _ _ (first .before .before .number .ensures) (c .before .before .place .ensures)) (omega arith)
 
 pub put-refusal-spec : {M : Type 1} → statement M
 put-refusal-spec =
@@ -22,9 +20,7 @@ put-refusal-spec =
     (λ c. search needs)
     (λ c κs. search needs)
     (λ c κs. search needs)
-    (λ c κs. search needs)
     (λ c. search needs)
-    (λ c κs. search needs)
     (λ c κs. search needs)
     (λ c κs. search needs)
     returns)

@@ -1,0 +1,25 @@
+-- `standing::put_standing` meets its contract: column after column.
+use native.Mathlib.Omega.{arith}
+use borrow.Author.Needs.{needs}
+use Rattle.columns.specs.Columns.{standingCells}
+use Rattle.columns.proofs.Laws.{three}
+use Rattle.standing.proofs.put_standing.Statement.{statement}
+use Rattle.standing.proofs.put_standing.Tie as tie
+
+returns : tie.Need-returns
+unfolding standingCells
+returns c =
+    let third = c .before .before in
+    let second = third .before .before .before .before in
+    let first = second .before .before .before .before in
+    three (first .put-state .ensures) (second .put-visibility .ensures) (third .put-source .ensures) 36 (omega arith)
+
+pub put-standing-spec : {M : Type 1} → statement M
+put-standing-spec =
+    tie.close
+    (tie.spec
+    (λ c κs. search needs)
+    (λ c κs. search needs)
+    (λ c κs. search needs)
+    (λ c. search needs)
+    returns)
