@@ -16,7 +16,7 @@ use Rattle.rules.specs.declared.Written.{Written}
 use Rattle.rules.specs.declared.Written.the-variants.{Refused as NotWritten}
 use Rattle.rules.specs.Answers.{numberOf, placeOf, writtenAnswer}
 use Rattle.rules.proofs.Order.{tests}
-use Rattle.sections.proofs.Runs.{Copying, copying-more}
+use Rattle.numbers.proofs.Copies.{Copying, copying-more}
 use Rattle.boundary.specs.declared.Reply.{Reply}
 use Rattle.boundary.specs.Boundary.{replied, replyOf, lookedUpBy, replyLeft, sizeAfter}
 

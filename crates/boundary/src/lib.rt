@@ -21,8 +21,8 @@ pub struct Reply {
 pub fn refuse(r: Refusal, place: &mut u64) -> u64
     ensures { λ n. ⌜ (n ≡ numberOf r) × (now (place .exit) ≡ placeOf r) ⌝ }
 {
-    *place = rules::place(r);
-    rules::number(r)
+    *place = refusals::place(r);
+    refusals::number(r)
 }
 
 // Says what write and tidy answered. The size stays where there is no result.
@@ -92,8 +92,8 @@ pub fn in_numbers(f: Found) -> Reply
             count,
         } => found(2, visibility, domain, source, total, start, count),
         Found::Refused(r) => Reply {
-            number: rules::number(r),
-            place: rules::place(r),
+            number: refusals::number(r),
+            place: refusals::place(r),
             values: [0u64; 8],
         },
     }

@@ -61,6 +61,6 @@ pub fn put_count(name: &[u8], n: u64, at: usize, out: &mut [u8]) -> usize
 pub fn put_refusal(r: Refusal, out: &mut [u8; 64]) -> usize
     ensures { λ e. ⌜ Appended 53 (now (out .entry)) 0 (refusalLine r) (now (out .exit)) e ⌝ }
 {
-    let p1 = put_named(b"refused", rules::number(r), BLANK, 0, out);
-    put_named(b"at", rules::place(r), NEWLINE, p1, out)
+    let p1 = put_named(b"refused", refusals::number(r), BLANK, 0, out);
+    put_named(b"at", refusals::place(r), NEWLINE, p1, out)
 }

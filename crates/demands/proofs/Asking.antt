@@ -19,7 +19,7 @@ use Rattle.store.specs.Table.{goodTable}
 use Rattle.segment.specs.Keys.{NoKeyTwice}
 use Rattle.segment.specs.Check.{sumLengths}
 use Rattle.segment.specs.Meaning.{State, gone, live, Row, rowKey, extentsOfState, rowExtents, Meaning, sourceOf, countFrom}
-use Rattle.segment.specs.Tidy.{flagsOf, placeOf}
+use Rattle.segment.specs.Tidy.{flagsOf, extentsPlace}
 use Rattle.segment.specs.Write.{entryCount, listedExtents, extentsFrom, entryExtents, entryGone, entryNo, allListedFit, entryDigestBytes, entryKey, entryRow, requested}
 use Rattle.segment.proofs.Sources.{imported-fits, own-source, source-read}
 use Rattle.order.specs.Order.{Each}
@@ -34,7 +34,7 @@ use Rattle.demands.proofs.Flat.{flat-long, flat-read, entry-read, exten
 
 record Says (e : Entry) (st : State) (at : ℕ) : Type 0 where
   gone : e .gone ≡ flagsOf st
-  first : e .«first_extent» ≡ placeOf st at
+  first : e .«first_extent» ≡ extentsPlace st at
   count : e .«extent_count» ≡ length (extentsOfState st)
 
 flags-fit : (st : State) → flagsOf st ≤ 1

@@ -12,7 +12,7 @@ use lib.ListN.{length}
 use Rattle.segment.specs.declared.entry.Entry.{Entry}
 use Rattle.segment.specs.declared.extent.Extent.{Extent}
 use Rattle.segment.specs.Meaning.{Row, rowExtents, Meaning}
-use Rattle.segment.specs.Tidy.{importedOf, domainOf, flagsOf, placeOf}
+use Rattle.segment.specs.Tidy.{importedOf, domainOf, flagsOf, extentsPlace}
 use Rattle.segment.specs.Write.{Request, requested}
 use Rattle.demands.specs.Writing.{Lent, Asks}
 
@@ -46,7 +46,7 @@ entryOf r digests extents = record {
   imported = importedOf (r .source);
   source = domainOf (r .source);
   gone = flagsOf (r .state);
-  «first_extent» = placeOf (r .state) extents;
+  «first_extent» = extentsPlace (r .state) extents;
   «extent_count» = length (rowExtents r);
 }
 

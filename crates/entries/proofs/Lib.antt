@@ -1,4 +1,2 @@
-pub mod ListRows
-pub mod ContentRows
 pub mod Books
 pub mod Whole

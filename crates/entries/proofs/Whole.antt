@@ -2,19 +2,26 @@
 -- Assumes nothing.
 use Prim.Native.Nat.{ℕ, _+_, _%_, _≤_, _<_}
 use mathlib.Core.Path.{_≡_, refl, sym, _∙_}
+use mathlib.Core.Bool.{Bool, true, false, not, _&&_}
 use mathlib.Core.List.{List}
 use native.Mathlib.Omega.{arith}
+use borrow.Author.Tests.{leb-true, ltb-true, eqb-true}
+use lib.Dec.{leb, ltb, eqb}
+use lib.ListN.{length}
 use Rattle.rules.specs.declared.Refusal.{Refusal}
-use Rattle.rules.specs.declared.Refusal.the-variants.{Layout, Large}
+use Rattle.rules.specs.declared.Refusal.the-variants.{Layout, Record, Digest, Extents, Total, List as ListEnd, Large}
 use Rattle.rules.specs.declared.Verdict.{Verdict}
 use Rattle.rules.specs.declared.Verdict.the-variants.{Accepted, Refused}
-use Rattle.rules.specs.Rules.{_then_, firstOver}
-use Rattle.rules.proofs.Order.{tests, first-more, first-refused}
+use Rattle.rules.specs.Rules.{must, _then_, firstOver}
+use Rattle.rules.proofs.Order.{tests, by-test, and-iff, was-false, first-more, first-refused}
+use Rattle.store.specs.Table.{allows}
 use Rattle.segment.specs.declared.entry.Entry.{Entry}
+use Rattle.segment.specs.declared.extent.Extent.{Extent}
 use Rattle.segment.specs.Format.{v3}
 use Rattle.segment.specs.Keys.{freshKey}
 use Rattle.segment.specs.Write.{
   entryCount,
+  listedExtents,
   entryNo,
   entryMarks,
   entryLists,
@@ -28,34 +35,82 @@ use Rattle.segment.specs.Write.{
 }
 use Rattle.keys.specs.declared.Kind.the-variants.{Entries}
 use Rattle.keys.specs.Items.{itemKey}
-use Rattle.entries.specs.Told.{contentsRules}
+use Rattle.listed.specs.Kept.{marksKept, listsKept, placesKept, totalKept}
 use Rattle.entries.proofs.Books.{same-keys}
 
 -- ---- one entry
 
--- a verdict is that of three tables in order
-pub record InThree (v a b c : Verdict) : Type 0 where
-  pub told : v ≡ (a then b then c)
+-- two rules with one refusal are one rule
+must-both : (a b : Bool) (r : Refusal) → (must a r then must b r) ≡ must (a && b) r
+must-both true b r = refl
+must-both false b r = refl
 
-module _ {v a b c : Verdict} (t : InThree v a b c) where
-  pub first-stops : {x : Refusal} → a ≡ Refused x → Refused x ≡ v
-  first-stops e = rw (t .told, e)
+marks-one : (e : Entry) (k : ℕ) → entryMarks e k ≡ must (marksKept (e .visibility) (e .imported) (e .gone) (e .source)) (Record k)
+unfolding entryMarks marksKept
+marks-one e k = simp must-both
 
-  pub second-stops : {x : Refusal} → a ≡ Accepted → b ≡ Refused x → Refused x ≡ v
-  second-stops e f = rw (t .told, e, f)
+lists-one : (digests extents : List ℕ) (e : Entry) (k : ℕ)
+    → entryLists digests extents e k
+    ≡ must (listsKept (e .«digest_start») (e .«digest_length») (length digests) (e .«first_extent») (e .«extent_count») (listedExtents extents)) (ListEnd k)
+unfolding entryLists listsKept
+lists-one digests extents e k = simp must-both
 
-  pub third-tells : {w : Verdict} → a ≡ Accepted → b ≡ Accepted → w ≡ c → w ≡ v
-  third-tells e f g = rw (t .told, e, f) g
+places-one : (e : Entry) (k : ℕ) → entryPlaces e k ≡ must (placesKept (e .gone) (e .«first_extent») (e .«extent_count»)) (Extents k)
+unfolding entryPlaces placesKept
+places-one e k =
+    by-test (eqb (e .gone) 1)
+    (λ g. rw g (simp must-both))
+    (λ g. rw g (simp must-both))
 
-pub contents-three : (pairs extents : List ℕ) (e : Entry) (k : ℕ)
-    → InThree (contentsRules pairs extents e k) (entryDigest pairs e k) (entryPlaces e k) (entryTotal v3 (entryExtents extents e) k)
-unfolding contentsRules
-contents-three pairs extents e k = record { told = refl }
+total-one : (es : List Extent) (k : ℕ) → entryTotal v3 es k ≡ must (totalKept es) (Total k)
+unfolding entryTotal totalKept
+total-one es k = simp must-both
 
-pub entry-three : (pairs digests extents : List ℕ) (e : Entry) (k : ℕ)
-    → InThree (entryRules v3 pairs digests extents e k) (entryMarks e k) (entryLists digests extents e k) (contentsRules pairs extents e k)
-unfolding entryRules contentsRules
-entry-three pairs digests extents e k = record { told = refl }
+-- an entry that keeps 15 and 9 has extents that can be counted and read
+pub extents-held : (start length bytes first count listed gone : ℕ) → listsKept start length bytes first count listed ≡ true
+    → placesKept gone first count ≡ true → (first + count ≤ listed) × (count < 4294967296)
+unfolding listsKept placesKept
+extents-held start length bytes first count listed gone a b = (
+  leb-true (first + count) listed (and-iff (leb (start + length) bytes) (leb (first + count) listed) .0 a .1),
+  by-test (eqb gone 1)
+      (λ g. let z = eqb-true count 0 (and-iff (eqb first 0) (eqb count 0) .0 (rw g at b) .1) in omega arith)
+      (λ g. ltb-true count 4294967296 (and-iff (leb 1 count) (ltb count 4294967296) .0 (rw g at b) .1)),
+)
+
+-- a verdict is that of five rules in order, each with its test
+pub record InFive (v : Verdict) (k : ℕ) (marks lists allowed places total : Bool) : Type 0 where
+  pub told : v
+      ≡ (must marks (Record k) then must lists (ListEnd k) then must allowed (Digest k) then must places (Extents k) then must total (Total k))
+
+module _ {v : Verdict} {k : ℕ} {m l d p t : Bool} (f : InFive v k m l d p t) where
+  pub lists-stop : m ≡ true → l ≡ false → Refused (ListEnd k) ≡ v
+  lists-stop a b = rw (f .told, a, b)
+
+  pub digest-stops : m ≡ true → l ≡ true → d ≡ false → Refused (Digest k) ≡ v
+  digest-stops a b c = rw (f .told, a, b, c)
+
+  pub places-stop : m ≡ true → l ≡ true → d ≡ true → p ≡ false → Refused (Extents k) ≡ v
+  places-stop a b c g = rw (f .told, a, b, c, g)
+
+  module _ (a : m ≡ true) (b : l ≡ true) (c : d ≡ true) (g : p ≡ true) where
+    pub total-stops : t ≡ false → Refused (Total k) ≡ v
+    total-stops h = rw (f .told, a, b, c, g, h)
+
+    pub all-kept : t ≡ true → Accepted ≡ v
+    all-kept h = rw (f .told, a, b, c, g, h)
+
+pub entry-five : (pairs digests extents : List ℕ) (e : Entry) (k : ℕ)
+    → InFive (entryRules v3 pairs digests extents e k) k (marksKept (e .visibility) (e .imported) (e .gone) (e .source))
+    (listsKept (e .«digest_start») (e .«digest_length») (length digests) (e .«first_extent») (e .«extent_count») (listedExtents extents))
+    (allows pairs (e .«hash_id») (e .«digest_length»)) (placesKept (e .gone) (e .«first_extent») (e .«extent_count»))
+    (totalKept (entryExtents extents e))
+unfolding entryRules entryDigest
+entry-five pairs digests extents e k = record { told = rw (marks-one e k, lists-one digests extents e k, places-one e k, total-one (entryExtents extents e) k) }
+
+-- the first of them: its premises are as the call and the test leave them
+pub marks-stop : (pairs digests extents : List ℕ) (e : Entry) (k : ℕ) (t : Bool)
+    → t ≡ marksKept (e .visibility) (e .imported) (e .gone) (e .source) → not t ≡ true → Refused (Record k) ≡ entryRules v3 pairs digests extents e k
+marks-stop pairs digests extents e k t p a = rw (entry-five pairs digests extents e k .told, was-false p a)
 
 -- ---- each entry, and the request
 

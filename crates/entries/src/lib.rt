@@ -5,32 +5,42 @@ ghost use Rattle.rules.specs.Rules.{firstOver};
 ghost use Rattle.segment.specs.Format.{v3};
 ghost use Rattle.segment.specs.Write.{entryCount, entryRules, entryVerdict, requestRules};
 use keys::Kind;
+use listed::reach::lists_kept;
+use listed::total::EXTENT;
+use listed::total::total_kept;
 use rules::Refusal;
 use rules::Verdict;
 use segment::entry::Entry;
 
-// The numbers of a listed extent: block, offset and length.
-const EXTENT: usize = 3;
-
-mod contents;
-mod lists;
-
+// One entry, number k.
 fn check_entry(pairs: &[u64], digests: &[u8], extents: &[u64], e: Entry, k: usize) -> Verdict
     ensures { λ v. ⌜ v ≡ entryRules v3 (now (pairs .entry)) (now (digests .entry)) (now (extents .entry)) e k ⌝ }
 {
-    match lists::check_marks(e, k) {
-        Verdict::Refused(x) => {
-            return Verdict::Refused(x);
-        }
-        Verdict::Accepted => {}
+    let bytes = digests.len() as u64;
+    let count = (extents.len() / EXTENT) as u64;
+    if !listed::marks_kept(e.visibility, e.imported, e.gone, e.source) {
+        return Verdict::Refused(Refusal::Record(k as u64));
     }
-    match lists::check_lists(digests, extents, e, k) {
-        Verdict::Refused(x) => {
-            return Verdict::Refused(x);
-        }
-        Verdict::Accepted => {}
+    if !lists_kept(
+        e.digest_start,
+        e.digest_length,
+        bytes,
+        e.first_extent,
+        e.extent_count,
+        count,
+    ) {
+        return Verdict::Refused(Refusal::List(k as u64));
     }
-    contents::check_contents(pairs, extents, e, k)
+    if !store::allows(pairs, e.hash_id, e.digest_length) {
+        return Verdict::Refused(Refusal::Digest(k as u64));
+    }
+    if !listed::places_kept(e.gone, e.first_extent, e.extent_count) {
+        return Verdict::Refused(Refusal::Extents(k as u64));
+    }
+    if !total_kept(extents, e.first_extent, e.extent_count) {
+        return Verdict::Refused(Refusal::Total(k as u64));
+    }
+    Verdict::Accepted
 }
 
 // Every whole entry of the list.

@@ -27,20 +27,20 @@ fn put_kind(h: Header, out: &mut [u8])
     requires { ⌜ 112 ≤ length (now out) ⌝ }
     ensures { λ _. ⌜ now (out .exit) ≡ put (now (out .entry)) 0 (packed (kindFields h)) ⌝ }
 {
-    numbers::put_u64(out, 0, h.magic);
-    numbers::put_u16(out, 8, h.version);
-    numbers::put_u16(out, 10, h.shard);
-    numbers::put_u32(out, 12, h.header_size);
+    puts::put_u64(out, 0, h.magic);
+    puts::put_u16(out, 8, h.version);
+    puts::put_u16(out, 10, h.shard);
+    puts::put_u32(out, 12, h.header_size);
 }
 
 fn put_counts(h: Header, out: &mut [u8])
     requires { ⌜ 112 ≤ length (now out) ⌝ }
     ensures { λ _. ⌜ now (out .exit) ≡ put (now (out .entry)) 16 (packed (countFields h)) ⌝ }
 {
-    numbers::put_u64(out, 16, h.snapshot_min);
-    numbers::put_u64(out, 24, h.snapshot_max);
-    numbers::put_u64(out, 32, h.record_count);
-    numbers::put_u64(out, 40, h.records_offset.0);
+    puts::put_u64(out, 16, h.snapshot_min);
+    puts::put_u64(out, 24, h.snapshot_max);
+    puts::put_u64(out, 32, h.record_count);
+    puts::put_u64(out, 40, h.records_offset.0);
 }
 
 fn put_front(h: Header, out: &mut [u8])
@@ -55,10 +55,10 @@ fn put_sections(h: Header, out: &mut [u8])
     requires { ⌜ 112 ≤ length (now out) ⌝ }
     ensures { λ _. ⌜ now (out .exit) ≡ put (now (out .entry)) 48 (packed (sectionFields h)) ⌝ }
 {
-    numbers::put_u64(out, 48, h.bloom_offset.0);
-    numbers::put_u64(out, 56, h.bloom_size);
-    numbers::put_u64(out, 64, h.digests_offset.0);
-    numbers::put_u64(out, 72, h.digests_size);
+    puts::put_u64(out, 48, h.bloom_offset.0);
+    puts::put_u64(out, 56, h.bloom_size);
+    puts::put_u64(out, 64, h.digests_offset.0);
+    puts::put_u64(out, 72, h.digests_size);
 }
 
 // Where the extents stand and how many they are; then whose the segment is: domain and visibility.
@@ -66,19 +66,19 @@ fn put_extents_and_owner(h: Header, out: &mut [u8])
     requires { ⌜ 112 ≤ length (now out) ⌝ }
     ensures { λ _. ⌜ now (out .exit) ≡ put (now (out .entry)) 80 (packed (extentsOwnerFields h)) ⌝ }
 {
-    numbers::put_u64(out, 80, h.extents_offset.0);
-    numbers::put_u64(out, 88, h.extent_count);
-    numbers::put_u32(out, 96, h.domain);
-    numbers::put_u8(out, 100, h.visibility);
+    puts::put_u64(out, 80, h.extents_offset.0);
+    puts::put_u64(out, 88, h.extent_count);
+    puts::put_u32(out, 96, h.domain);
+    puts::put_u8(out, 100, h.visibility);
 }
 
 fn put_last(h: Header, out: &mut [u8])
     requires { ⌜ 112 ≤ length (now out) ⌝ }
     ensures { λ _. ⌜ now (out .exit) ≡ put (now (out .entry)) 101 (packed (lastFields h)) ⌝ }
 {
-    numbers::put_u8(out, 101, h.federation);
-    numbers::put_u16(out, 102, h.reserved);
-    numbers::put_u64(out, 104, h.flags);
+    puts::put_u8(out, 101, h.federation);
+    puts::put_u16(out, 102, h.reserved);
+    puts::put_u64(out, 104, h.flags);
 }
 
 // The header, at the front.
@@ -96,13 +96,13 @@ fn put_identity(r: Record, at: usize, out: &mut [u8])
     requires { ⌜ at + 16 ≤ length (now out) ⌝ }
     ensures { λ _. ⌜ now (out .exit) ≡ put (now (out .entry)) at (packed (identityFields r)) ⌝ }
 {
-    numbers::put_u32(out, at, r.hash_id);
+    puts::put_u32(out, at, r.hash_id);
     let p1 = at + 4;
-    numbers::put_u16(out, p1, r.digest_length);
+    puts::put_u16(out, p1, r.digest_length);
     let p2 = p1 + 2;
-    numbers::put_u16(out, p2, r.reserved);
+    puts::put_u16(out, p2, r.reserved);
     let p3 = p2 + 2;
-    numbers::put_u64(out, p3, r.digest_offset.0);
+    puts::put_u64(out, p3, r.digest_offset.0);
 }
 
 // A total has four bytes here; of one that fits, the remainder is the whole.
@@ -110,33 +110,33 @@ fn put_slices(r: Record, at: usize, out: &mut [u8])
     requires { ⌜ at + 16 ≤ length (now out) ⌝ }
     ensures { λ _. ⌜ now (out .exit) ≡ put (now (out .entry)) at (packed (slicesFields r)) ⌝ }
 {
-    numbers::put_u64(out, at, r.extents_offset.0);
+    puts::put_u64(out, at, r.extents_offset.0);
     let p1 = at + 8;
-    numbers::put_u32(out, p1, r.extent_count);
+    puts::put_u32(out, p1, r.extent_count);
     let p2 = p1 + 4;
-    numbers::put_u32(out, p2, (r.total_length % 4294967296) as u32);
+    puts::put_u32(out, p2, (r.total_length % 4294967296) as u32);
 }
 
 fn put_owner(r: Record, at: usize, out: &mut [u8])
     requires { ⌜ at + 8 ≤ length (now out) ⌝ }
     ensures { λ _. ⌜ now (out .exit) ≡ put (now (out .entry)) at (packed (ownerFields r)) ⌝ }
 {
-    numbers::put_u32(out, at, r.domain);
+    puts::put_u32(out, at, r.domain);
     let p1 = at + 4;
-    numbers::put_u8(out, p1, r.visibility);
+    puts::put_u8(out, p1, r.visibility);
     let p2 = p1 + 1;
-    numbers::put_u8(out, p2, r.imported);
+    puts::put_u8(out, p2, r.imported);
     let p3 = p2 + 1;
-    numbers::put_u16(out, p3, r.reserved_last);
+    puts::put_u16(out, p3, r.reserved_last);
 }
 
 fn put_marks(r: Record, at: usize, out: &mut [u8])
     requires { ⌜ at + 8 ≤ length (now out) ⌝ }
     ensures { λ _. ⌜ now (out .exit) ≡ put (now (out .entry)) at (packed (markFields r)) ⌝ }
 {
-    numbers::put_u32(out, at, r.source);
+    puts::put_u32(out, at, r.source);
     let p1 = at + 4;
-    numbers::put_u32(out, p1, r.flags);
+    puts::put_u32(out, p1, r.flags);
 }
 
 pub fn put_record(r: Record, at: usize, out: &mut [u8])
@@ -156,20 +156,20 @@ pub fn put_extent(e: Extent, at: usize, out: &mut [u8])
     requires { ⌜ at + 16 ≤ length (now out) ⌝ }
     ensures { λ _. ⌜ now (out .exit) ≡ put (now (out .entry)) at (packed (extentFields e)) ⌝ }
 {
-    numbers::put_u64(out, at, e.block);
+    puts::put_u64(out, at, e.block);
     let p1 = at + 8;
-    numbers::put_u32(out, p1, e.offset.0);
+    puts::put_u32(out, p1, e.offset.0);
     let p2 = p1 + 4;
-    numbers::put_u32(out, p2, e.length);
+    puts::put_u32(out, p2, e.length);
 }
 
 pub fn put_footer(f: Footer, at: usize, out: &mut [u8])
     requires { ⌜ at + 24 ≤ length (now out) ⌝ }
     ensures { λ _. ⌜ now (out .exit) ≡ put (now (out .entry)) at (packed (footerFields f)) ⌝ }
 {
-    numbers::put_u64(out, at, f.checksum);
+    puts::put_u64(out, at, f.checksum);
     let p1 = at + 8;
-    numbers::put_u64(out, p1, f.seal_snapshot);
+    puts::put_u64(out, p1, f.seal_snapshot);
     let p2 = p1 + 8;
-    numbers::put_u64(out, p2, f.seal_time);
+    puts::put_u64(out, p2, f.seal_time);
 }

@@ -14,14 +14,14 @@ use Rattle.segment.specs.Format.{Shape, extentsOffset, extentCount, extentsIn}
 use Rattle.segment.specs.Check.{isGone, sumLengths}
 use Rattle.segment.specs.Meets.{ExtentsMeet, TotalMeets}
 use Rattle.segment.specs.Meaning.{State, gone, live, extentsOfState}
-use Rattle.segment.specs.Tidy.{flagsOf, placeOf, extentListBytes}
+use Rattle.segment.specs.Tidy.{flagsOf, extentsPlace, extentListBytes}
 use Rattle.form.specs.Form.{StateWritable}
 use Rattle.form.proofs.Places.{HasAt}
 use Rattle.form.proofs.Structures.{extents-read, extents-inside}
 
 pub record Says (q : Record) (st : State) (at : ℕ) : Type 0 where
   pub flags : q .flags ≡ flagsOf st
-  pub place : q .«extents_offset» .0 ≡ placeOf st at
+  pub place : q .«extents_offset» .0 ≡ extentsPlace st at
   pub count : q .«extent_count» ≡ length (extentsOfState st)
   pub total : q .«total_length» ≡ sumLengths (extentsOfState st)
 

@@ -17,7 +17,7 @@ use Rattle.segment.specs.Format.{v3, recordsOffset, recordNo, extentsAt}
 use Rattle.segment.specs.Keys.{insert, sortBy}
 use Rattle.segment.specs.Check.{sumLengths, digestIn}
 use Rattle.segment.specs.Meaning.{gone, Row, rowKey, rowExtents, sourceOf, rowOf, rowNo}
-use Rattle.segment.specs.Tidy.{importedOf, domainOf, flagsOf, placeOf, recordFor, digestBytes, extentTotal, largestVisibility, rowLeq}
+use Rattle.segment.specs.Tidy.{importedOf, domainOf, flagsOf, extentsPlace, recordFor, digestBytes, extentTotal, largestVisibility, rowLeq}
 use Rattle.segment.specs.Write.{entryNo, extentsFrom}
 use Rattle.segment.proofs.Extents.{listed-counted}
 use Rattle.segment.proofs.Sources.{imported-again, source-again}
@@ -130,7 +130,7 @@ module _ (kind : Kind) (bytes list extents : List ℕ) (k : ℕ) (l : Line kind 
       (λ t. let z : e .gone ≡ 1 = eqb-true (e .gone) 1 t in rw t (sym z))
       (λ t. let z : e .gone ≡ 1 → ⊥ = eqb-false (e .gone) 1 t in let n = l .counted .narrow .gone in rw t (omega arith))
 
-  row-place : (at : ℕ) → placeOf (row .state) at ≡ cond (eqb (e .gone) 1) 0 at
+  row-place : (at : ℕ) → extentsPlace (row .state) at ≡ cond (eqb (e .gone) 1) 0 at
   unfolding itemRow rowOfEntry
   row-place at = by-test (eqb (e .gone) 1) (λ t. rw t) (λ t. rw t)
 

@@ -1,5 +1,5 @@
--- A run of bytes that is copied, one that is cleared, and the extents of one item that are put one behind the other: what stands in the output
--- after some turns of the loop.
+-- A run of bytes that is cleared, and the extents of one item that are put one behind the other: what stands in the output after some turns
+-- of the loop.
 -- Assumes nothing.
 use Prim.Native.Nat.{ℕ, zero, suc, _+_, _*_, _≤_, _<_}
 use mathlib.Core.Path.{_≡_, refl, sym, ap, _∙_}
@@ -7,10 +7,9 @@ use mathlib.Core.List.{List, [], _∷_, _++_, append-nil, append-assoc}
 use native.Mathlib.Numerals.{add-one}
 use native.Mathlib.Omega.{arith}
 use borrow.Author.Fill.{fill-more}
-use lib.ListN.{length, length-set, getD, set, take, drop, replicate, drop-of-length-le}
-use lib.Seq.{take-all, take-suc, length-take-le}
+use lib.ListN.{length, length-set, set, drop, replicate, drop-of-length-le}
 use Rattle.numbers.specs.Numbers.{put}
-use Rattle.numbers.proofs.Laws.{put-put, length-put, put-none, set-put}
+use Rattle.numbers.proofs.Laws.{put-put, length-put, put-none}
 use Rattle.segment.specs.declared.extent.Extent.{Extent}
 use Rattle.segment.specs.Format.{extentOf, extentsAt}
 use Rattle.segment.specs.Tidy.{packed, extentFields, extentListBytes}
@@ -20,32 +19,6 @@ use Rattle.keys.specs.declared.Kind.{Kind}
 use Rattle.keys.specs.declared.Kind.the-variants.{Records, Entries}
 use Rattle.lines.specs.Lines.{Held, itemExtent, itemExtents}
 use Rattle.lines.proofs.Rows.{extents-length, extents-none}
-
--- ---- a copy
-
-pub record Copying (from out₀ : List ℕ) (at i : ℕ) (out : List ℕ) : Type 0 where
-  pub within : i ≤ length from
-  pub same : length out ≡ length out₀
-  pub done : out ≡ put out₀ at (take i from)
-
-pub copying-start : (from out : List ℕ) (at : ℕ) → Copying from out at 0 out
-copying-start from out at = record { within = omega arith; same = refl; done = sym (put-none out at) }
-
-module _ (from out₀ : List ℕ) (at i : ℕ) (out : List ℕ) (c : Copying from out₀ at i out) where
-  pub copying-more : i < length from → at + length from ≤ length out₀ → Copying from out₀ at (i + 1) (set out (at + i) (getD from i 0))
-  copying-more h r =
-      let n : length (take i from) ≡ i = length-take-le i from (omega arith) in
-      let j : put (put out₀ at (take i from)) (at + i) (getD from i 0 ∷ []) ≡ put out₀ at (take i from ++ (getD from i 0 ∷ [])) =
-      rw n at (put-put out₀ at (take i from) (getD from i 0 ∷ []) (omega arith)) in
-      let s : set out (at + i) (getD from i 0) ≡ put out (at + i) (getD from i 0 ∷ []) = set-put out (at + i) (getD from i 0) (omega (arith, c .same)) in
-      record {
-        within = omega arith;
-        same = length-set out (at + i) (getD from i 0) ∙ c .same;
-        done = s ∙ ap (λ (o : List ℕ). put o (at + i) (getD from i 0 ∷ [])) (c .done) ∙ j ∙ rw (add-one, take-suc from i 0 h);
-      }
-
-  pub copying-done : length from ≤ i → out ≡ put out₀ at from
-  copying-done h = c .done ∙ ap (put out₀ at) (take-all i from h)
 
 -- ---- zeros
 

@@ -95,9 +95,9 @@ flagsOf gone = 1
 flagsOf (live es) = 0
 
 -- where a record's extents are said to lie: 0 if it is gone
-abbrev pub placeOf : State → ℕ → ℕ
-placeOf gone at = 0
-placeOf (live es) at = at
+abbrev pub extentsPlace : State → ℕ → ℕ
+extentsPlace gone at = 0
+extentsPlace (live es) at = at
 
 -- a row whose digest lies at one place and whose extents at another
 unfoldable pub recordFor : ℕ → Row → ℕ → ℕ → Record
@@ -106,7 +106,7 @@ recordFor domain r digestAt extentsAt = record {
   «digest_length» = length (r .digest);
   reserved = 0;
   «digest_offset» = inFile digestAt;
-  «extents_offset» = inFile (placeOf (r .state) extentsAt);
+  «extents_offset» = inFile (extentsPlace (r .state) extentsAt);
   «extent_count» = length (rowExtents r);
   «total_length» = sumLengths (rowExtents r);
   domain = domain;

@@ -2,7 +2,7 @@
 use Prim.Native.Nat.{_-_}
 use native.Mathlib.Omega.{arith}
 use lib.ListN.{length}
-use Rattle.sections.proofs.Runs.{Copying, copying-start, copying-done}
+use Rattle.numbers.proofs.Copies.{Copying, copying-start, copying-done}
 use Rattle.boundary.proofs.Replies.{front-more}
 use Rattle.boundary.proofs.put_values.Statement.{statement}
 use Rattle.boundary.proofs.put_values.Tie as tie

@@ -1,8 +1,16 @@
--- `entries::check_entry` meets its contract: the first table that refuses.
-use mathlib.Core.Path.{sym, _∙_}
+-- `entries::check_entry` meets its contract: the first rule that is broken.
 use borrow.Author.Needs.{needs}
-use Rattle.entries.proofs.Books.{lists-book}
-use Rattle.entries.proofs.Whole.{entry-three, first-stops, second-stops, third-tells}
+use Rattle.rules.proofs.Order.{was-true, was-false}
+use Rattle.entries.proofs.Whole.{
+  extents-held,
+  entry-five,
+  marks-stop,
+  lists-stop,
+  digest-stops,
+  places-stop,
+  total-stops,
+  all-kept,
+}
 use Rattle.entries.proofs.check_entry.Statement.{statement}
 use Rattle.entries.proofs.check_entry.Tie as tie
 
@@ -11,19 +19,41 @@ check-entry-spec =
     tie.close
     (tie.spec
     (λ c κs. search needs)
-    (λ c. search needs)
-    (λ c. first-stops (entry-three _ _ _ _ _) (sym (c .before .before .before .check-marks .ensures) ∙ c .before .x .given .1))
-    (λ c. search needs)
+    (λ c. search marks-stop)
     (λ c κs. search needs)
-    (λ c. search needs)
     (λ c.
-    let second = c .before .before .before in
-    let first = second .before in
-    second-stops (entry-three _ _ _ _ _) (sym (first .before .before .check-marks .ensures) ∙ first .enum-told .given .1) (sym (second .check-lists .ensures) ∙ c .before .x2 .given .1))
-    (λ c. search needs)
-    (λ c κs. lists-book _ _ _ _ .0 (sym (c .before .before .check-lists .ensures) ∙ c .enum-told2 .given .1) .slices)
+    let marks = c .before .before in
+    lists-stop (entry-five _ _ _ _ _) (was-true (marks .before .marks-kept .ensures) (marks .if1 .left)) (was-false (c .before .lists-kept .ensures) (c .if2 .taken)))
+    (λ c κs. search needs)
     (λ c.
-    let second = c .before in
-    let first = second .before .before .before in
-    third-tells (entry-three _ _ _ _ _) (sym (first .before .before .check-marks .ensures) ∙ first .enum-told .given .1)
-    (sym (second .before .before .check-lists .ensures) ∙ second .enum-told2 .given .1) (c .check-contents .ensures)))
+    let lists = c .before .before in
+    let marks = lists .before .before in
+    digest-stops (entry-five _ _ _ _ _) (was-true (marks .before .marks-kept .ensures) (marks .if1 .left))
+    (was-true (lists .before .lists-kept .ensures) (lists .if2 .left)) (was-false (c .before .allows .ensures) (c .if3 .taken)))
+    (λ c κs. search needs)
+    (λ c.
+    let digest = c .before .before in
+    let lists = digest .before .before in
+    let marks = lists .before .before in
+    places-stop (entry-five _ _ _ _ _) (was-true (marks .before .marks-kept .ensures) (marks .if1 .left))
+    (was-true (lists .before .lists-kept .ensures) (lists .if2 .left)) (was-true (digest .before .allows .ensures) (digest .if3 .left))
+    (was-false (c .before .places-kept .ensures) (c .if4 .taken)))
+    (λ c κs.
+    let lists = c .before .before .before .before in
+    extents-held _ _ _ _ _ _ _ (was-true (lists .before .lists-kept .ensures) (lists .if2 .left)) (was-true (c .before .places-kept .ensures) (c .if4 .left)))
+    (λ c.
+    let places = c .before .before in
+    let digest = places .before .before in
+    let lists = digest .before .before in
+    let marks = lists .before .before in
+    total-stops (entry-five _ _ _ _ _) (was-true (marks .before .marks-kept .ensures) (marks .if1 .left))
+    (was-true (lists .before .lists-kept .ensures) (lists .if2 .left)) (was-true (digest .before .allows .ensures) (digest .if3 .left))
+    (was-true (places .before .places-kept .ensures) (places .if4 .left)) (was-false (c .before .total-kept .ensures) (c .if5 .taken)))
+    (λ c.
+    let places = c .before .before in
+    let digest = places .before .before in
+    let lists = digest .before .before in
+    let marks = lists .before .before in
+    all-kept (entry-five _ _ _ _ _) (was-true (marks .before .marks-kept .ensures) (marks .if1 .left))
+    (was-true (lists .before .lists-kept .ensures) (lists .if2 .left)) (was-true (digest .before .allows .ensures) (digest .if3 .left))
+    (was-true (places .before .places-kept .ensures) (places .if4 .left)) (was-true (c .before .total-kept .ensures) (c .if5 .left))))

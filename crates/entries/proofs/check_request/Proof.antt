@@ -1,12 +1,16 @@
 -- `entries::check_request` meets its contract: the count, the bloom bytes, the entries, and then their keys.
 use mathlib.Core.Path.{sym, _∙_}
 use borrow.Author.Needs.{needs}
-use native.Mathlib.Omega.{arith}
 use Rattle.fresh.proofs.Climbing.{none-twice}
 use Rattle.entries.proofs.Books.{entries-book, entries-stand}
 use Rattle.entries.proofs.Whole.{too-many, bloom-odd, entries-stop, keys-told}
 use Rattle.entries.proofs.check_request.Statement.{statement}
 use Rattle.entries.proofs.check_request.Tie as tie
+
+stopped : tie.Need-returns-3
+stopped c =
+    let said = c .before .before .before in
+    entries-stop _ _ _ _ _ (said .before .before .if1 .left) (said .before .if2 .left) _ (sym (said .check-entries .ensures) ∙ c .before .x .given .1)
 
 asked : tie.Need-keys-climb-requires
 asked c κs = entries-stand _ _ _ _ _ (entries-book _ _ _ _ _ _ .0 (sym (c .before .before .check-entries .ensures) ∙ c .enum-told .given .1))
@@ -14,28 +18,32 @@ asked c κs = entries-stand _ _ _ _ _ (entries-book _ _ _ _ _ _ .0 (sym (c .befo
 climbing : tie.Need-returns-4
 climbing c =
     let at = c .before .before in
+    let said = at .before .before in
     let new = sym (none-twice _ _ _ _ (sym (c .before .keys-climb .ensures) ∙ c .if3 .taken)) in
-    keys-told _ _ _ _ _ (omega arith) (omega arith) (sym (at .before .before .check-entries .ensures) ∙ at .enum-told .given .1) new
+    keys-told _ _ _ _ _ (said .before .before .if1 .left) (said .before .if2 .left) (sym (said .check-entries .ensures) ∙ at .enum-told .given .1) new
 
 readable : tie.Need-check-keys-requires
 readable c κs =
     let at = c .before .before in
-    (entries-stand _ _ _ _ _ (entries-book _ _ _ _ _ _ .0 (sym (at .before .before .check-entries .ensures) ∙ at .enum-told .given .1)), omega arith)
+    let said = at .before .before in
+    (entries-stand _ _ _ _ _ (entries-book _ _ _ _ _ _ .0 (sym (said .check-entries .ensures) ∙ at .enum-told .given .1)), said .before .before .if1 .left)
 
 told : tie.Need-returns-5
 told c =
     let at = c .before .before .before in
-    keys-told _ _ _ _ _ (omega arith) (omega arith) (sym (at .before .before .check-entries .ensures) ∙ at .enum-told .given .1) (c .check-keys .ensures)
+    let said = at .before .before in
+    keys-told _ _ _ _ _ (said .before .before .if1 .left) (said .before .if2 .left) (sym (said .check-entries .ensures) ∙ at .enum-told .given .1)
+    (c .check-keys .ensures)
 
 pub check-request-spec : {M : Type 1} → statement M
 check-request-spec =
     tie.close
     (tie.spec
-    (λ c. too-many _ _ _ _ _ (omega arith))
-    (λ c. bloom-odd _ _ _ _ _ (omega arith) (omega arith))
+    (λ c. too-many _ _ _ _ _ (c .if1 .taken))
+    (λ c. bloom-odd _ _ _ _ _ (c .before .if1 .left) (c .if2 .taken))
     (λ c κs. search needs)
     (λ c. search needs)
-    (λ c. entries-stop _ _ _ _ _ (omega arith) (omega arith) _ (sym (c .before .before .before .check-entries .ensures) ∙ c .before .x .given .1))
+    stopped
     (λ c. search needs)
     asked
     climbing

@@ -2,7 +2,7 @@
 use Prim.Native.Nat.{_-_}
 use native.Mathlib.Omega.{arith}
 use lib.ListN.{length}
-use Rattle.sections.proofs.Runs.{Copying, copying-start, copying-more, copying-done}
+use Rattle.numbers.proofs.Copies.{Copying, copying-start, copying-more, copying-done}
 use Rattle.sections.proofs.copy_bytes.Statement.{statement}
 use Rattle.sections.proofs.copy_bytes.Tie as tie
 
