@@ -36,7 +36,7 @@ fn check_contents(pairs: &[u64], seg: &[u8], h: Header) -> Verdict
     }
     let at = h.records_offset.0 as usize;
     let n = h.record_count as usize;
-    if fresh::keys_climb(Kind::Records(at), seg, pairs, n) {
+    if climb::keys_climb(Kind::Records(at), seg, pairs, n) {
         return Verdict::Accepted;
     }
     fresh::check_keys(Kind::Records(at), seg, pairs, n)

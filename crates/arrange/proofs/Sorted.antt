@@ -11,9 +11,9 @@ use Rattle.segment.specs.Meaning.{countFrom}
 use Rattle.segment.specs.Tidy.{formOf, tidyForm}
 use Rattle.keys.specs.declared.Kind.{Kind}
 use Rattle.keys.specs.Items.{Items}
-use Rattle.order.specs.Order.{Sorted}
-use Rattle.order.proofs.Counting.{front, front-long}
-use Rattle.order.proofs.Numbered.{sorted-each}
+use Rattle.sorting.specs.Sorted.{Sorted}
+use Rattle.sorting.proofs.Counting.{front, front-long}
+use Rattle.sorting.proofs.Numbered.{sorted-each}
 use Rattle.lines.specs.Lines.{itemRows, Lines, Line}
 use Rattle.lines.proofs.Rows.{rows-sorted}
 use Rattle.emit.specs.Emit.{Wrote}

@@ -28,7 +28,7 @@ fn arrange(
     requires { ⌜ length (now numbers) ≤ 65536 ⌝ }
     ensures { λ r. ⌜ Wrote (itemsForm t (now (bloom .entry)) kind (now (bytes .entry)) (now (list .entry)) (now (extents .entry)) (length (now (numbers .entry)))) (now (out .entry)) (now (out .exit)) r ⌝ }
 {
-    order::sorted(kind, bytes, list, hints, numbers, spare);
+    sorting::sorted(kind, bytes, list, hints, numbers, spare);
     emit::emit(t, bloom, kind, bytes, list, extents, numbers, out)
 }
 

@@ -84,7 +84,7 @@ pub fn check_request(
         }
         Verdict::Accepted => {}
     }
-    if fresh::keys_climb(Kind::Entries, digests, entries, n) {
+    if climb::keys_climb(Kind::Entries, digests, entries, n) {
         return Verdict::Accepted;
     }
     fresh::check_keys(Kind::Entries, digests, entries, n)

@@ -25,8 +25,7 @@ use native.Mathlib.Omega.{arith}
 use lib.ListN.{length, getD, length-map}
 use Rattle.segment.specs.Meaning.{countFrom}
 use Rattle.order.specs.Order.{Each}
-use Rattle.order.proofs.Counting.{count-length}
-use Rattle.order.proofs.Each.{counted-iff}
+use Rattle.order.proofs.Each.{counted-iff, count-length}
 
 module _ {A : Type 0} (f : ℕ → A) where
   pub counted-long : (k n : ℕ) → length (map f (countFrom k n)) ≡ n

@@ -1,2 +1,2 @@
-pub mod Climbing
-pub mod Falling
+pub mod Known
+pub mod Scanning

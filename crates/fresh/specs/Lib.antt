@@ -1,1 +1,1 @@
-pub mod Falls
+pub mod Known

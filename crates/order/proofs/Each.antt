@@ -1,8 +1,8 @@
 -- What holds of each element of a list: at a place, of a part, of two lists in one, of the elements in another order, of the numbers
--- counted up.
+-- counted up; and how many these are.
 -- Assumes nothing.
 use Prim.Native.Nat.{ℕ, zero, suc, _+_, _≤_, _<_}
-use mathlib.Core.Path.{_≡_}
+use mathlib.Core.Path.{_≡_, refl, ap}
 use mathlib.Core.Logic.{_↔_, by-cases}
 use mathlib.Core.List.{List, [], _∷_, _++_, List·Permᴰ, List·Permᴰ·nil, List·Permᴰ·cons, List·Permᴰ·swap, List·Permᴰ·trans}
 use native.Mathlib.Decide.{ℕ-discrete}
@@ -65,3 +65,10 @@ each-permuted P List·Permᴰ·nil e = e
 each-permuted P (List·Permᴰ·cons h p) e = (rw (← h) (e .0), each-permuted P p (e .1))
 each-permuted P (List·Permᴰ·swap h k) e = (rw (← k) (e .1 .0), (rw (← h) (e .0), e .1 .1))
 each-permuted P (List·Permᴰ·trans p q) e = each-permuted P q (each-permuted P p e)
+
+-- ---- how many are counted up
+
+pub count-length : (k n : ℕ) → length (countFrom k n) ≡ n
+unfolding countFrom
+count-length k zero = refl
+count-length k (suc n) = ap suc (count-length (suc k) n)

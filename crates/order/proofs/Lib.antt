@@ -2,9 +2,5 @@ pub mod Fresh
 pub mod Lex
 pub mod Sorting
 pub mod Each
-pub mod Counting
 pub mod Arranged
 pub mod Merging
-pub mod Joining
-pub mod Halves
-pub mod Numbered

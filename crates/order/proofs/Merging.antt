@@ -1,4 +1,4 @@
--- What a turn of the merge and of the copy shows.
+-- What a turn of the merge shows.
 -- Assumes nothing.
 use Prim.Native.Nat.{ℕ, _+_, _≤_, _<_}
 use mathlib.Core.Path.{_≡_, refl, sym, ap, _∙_}
@@ -9,7 +9,7 @@ use native.Mathlib.Omega.{arith}
 use borrow.Author.Tests.{ltb-true, ltb-false}
 use lib.Dec.{ltb}
 use lib.ListN.{length, getD, set, take, drop, drop-of-length-le}
-use lib.Seq.{drop-cons, take-suc, take-suc-set, append-snoc, take-all}
+use lib.Seq.{drop-cons, take-suc-set, append-snoc}
 use Rattle.rules.proofs.Order.{by-test}
 use Rattle.order.specs.Order.{mergeBy, leftNext}
 use Rattle.order.proofs.Sorting.{clash, merge-nil}
@@ -88,18 +88,3 @@ module _ (leq : ℕ → ℕ → Bool) (a b out out₀ : List ℕ) (i j : ℕ)
       let hb : length b ≤ j = omega arith in
       let n : length a + length b ≡ i + j = omega arith in
       rw (done, n, drop-of-length-le a ha, drop-of-length-le b hb) (sym (append-nil (take (i + j) out)))
-
--- ---- a turn of the copy
-
-pub copy-more : (from to to₀ : List ℕ) (i : ℕ) → take i to ≡ take i from → i < length to → length to ≡ length to₀ → length to₀ ≤ length from
-    → take (i + 1) (set to i (getD from i 0)) ≡ take (i + 1) from
-copy-more from to to₀ i e h s r =
-    let k : i < length from = omega arith in
-    rw (add-one i, take-suc-set to i (getD from i 0) h, take-suc from i 0, e)
-
-pub copied : (from to to₀ : List ℕ) (i : ℕ) → take i to ≡ take i from → length to ≤ i → i ≤ length to₀ → length to ≡ length to₀ → to ≡ take (length to₀) from
-copied from to to₀ i e h k s =
-    let n : length to₀ ≡ i = omega arith in
-    sym (take-all i to h) ∙ e ∙ rw n
-
-pub ruleset copying = (copy-more, copied)

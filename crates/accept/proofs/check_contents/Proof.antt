@@ -2,7 +2,7 @@
 use mathlib.Core.Path.{sym, _∙_}
 use borrow.Author.Needs.{needs}
 use native.Mathlib.Omega.{arith}
-use Rattle.fresh.proofs.Climbing.{none-twice}
+use Rattle.climb.proofs.Climbing.{none-twice}
 use Rattle.accept.proofs.Whole.{contents-stop, shown-wrong, all-passed, records-stand, keys-told}
 use Rattle.accept.proofs.check_contents.Statement.{statement}
 use Rattle.accept.proofs.check_contents.Tie as tie

@@ -1,7 +1,7 @@
 -- `arrange::arrange` meets its contract: sorted, written.
 use native.Mathlib.Omega.{arith}
 use borrow.Author.Needs.{needs}
-use Rattle.order.proofs.Numbered.{sorted-long}
+use Rattle.sorting.proofs.Numbered.{sorted-long}
 use Rattle.arrange.proofs.Sorted.{lines-read, sorted-lines, sorted-wrote}
 use Rattle.arrange.proofs.arrange.Statement.{statement}
 use Rattle.arrange.proofs.arrange.Tie as tie

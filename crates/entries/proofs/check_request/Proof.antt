@@ -1,7 +1,7 @@
 -- `entries::check_request` meets its contract: the count, the bloom bytes, the entries, and then their keys.
 use mathlib.Core.Path.{sym, _∙_}
 use borrow.Author.Needs.{needs}
-use Rattle.fresh.proofs.Climbing.{none-twice}
+use Rattle.climb.proofs.Climbing.{none-twice}
 use Rattle.entries.proofs.Books.{entries-book, entries-stand}
 use Rattle.entries.proofs.Whole.{too-many, bloom-odd, entries-stop, keys-told}
 use Rattle.entries.proofs.check_request.Statement.{statement}

@@ -1,6 +1,6 @@
 -- `fresh::check_keys` meets its contract: the scan tells, after those that are known to be new.
 use borrow.Author.Needs.{needs}
-use Rattle.fresh.proofs.Falling.{known-none, known-by-order}
+use Rattle.fresh.proofs.Known.{known-none, known-by-order}
 use Rattle.fresh.proofs.check_keys.Statement.{statement}
 use Rattle.fresh.proofs.check_keys.Tie as tie
 

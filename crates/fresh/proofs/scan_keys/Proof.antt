@@ -1,16 +1,15 @@
 -- `fresh::scan_keys` meets its contract: every item known or passed is new, and the item at hand equals none of those passed in the inner loop.
 use Prim.Native.Nat.{_≤_, _-_}
-use mathlib.Core.Path.{_≡_, sym, _∙_}
+use mathlib.Core.Path.{_≡_}
 use mathlib.Core.Bool.{false}
 use mathlib.Core.Logic.{⊎-elim}
 use native.Mathlib.Omega.{arith}
-use borrow.Author.Needs.{needs}
 use Rattle.rules.specs.declared.Verdict.the-variants.{Accepted}
 use Rattle.rules.specs.Rules.{firstOver, someBelow}
-use Rattle.rules.proofs.Order.{first-more, first-refused, none-yet, some-more}
+use Rattle.rules.proofs.Order.{none-yet}
 use Rattle.segment.specs.Keys.{sameKey, freshKey}
 use Rattle.keys.specs.Items.{itemKey}
-use Rattle.keys.proofs.Equal.{stands-earlier, is-new}
+use Rattle.fresh.proofs.Scanning.{another, passed, found-twice, found-nowhere, stopped-before, stopped-at-end}
 use Rattle.fresh.proofs.scan_keys.Statement.{statement}
 use Rattle.fresh.proofs.scan_keys.Tie as tie
 
@@ -31,24 +30,30 @@ can-read c κs =
     let items = c .before .before .before .before .before .before .pre .0 in
     (items .each _ (omega arith), items .each _ (omega arith))
 
+differs : tie.Need-loop-again Inv-loop μ-loop Inv-pairs μ-pairs
+differs c =
+    let loop = c .before .before .before in
+    let a = loop .before .before .before .before .before .args in
+    another (itemKey (a .kind) (a .bytes .now) (a .list .now)) _ (loop .loop .j) (c .before .before .loop-test .taken) (loop .loop .inv .1) (c .before .same-key .ensures) (c .if2 .left)
+
 new : tie.Need-pairs-again Inv-loop μ-loop Inv-pairs μ-pairs
 new c =
-    let e : c .before .loop .j ≡ c .before .before .before .pairs .i = omega arith in
-    (omega arith, first-more _ _ (c .before .before .before .pairs .inv .1) (is-new _ _ (cc)))
+    let loop = c .before .loop in
+    passed _ _ (c .before .before .before .pairs .inv .1) _ (loop .j) (c .before .before .if1 .left) (c .loop-test .left) (loop .inv .0) (loop .inv .1)
 
 duplicate : tie.Need-returns Inv-loop μ-loop Inv-pairs μ-pairs
 duplicate c =
-    let p = c .before .before .pairs in
     ⊎-elim
-    (λ w. absurd (omega arith))
-    (λ w. rw (w .5) (sym (first-refused _ (p .i) _ _ (omega arith) (p .inv .1) (stands-earlier _ _ (w .1 .j) (omega arith) (sym (w .3 .ensures) ∙ w .4 .taken)))))
+    (λ w. stopped-before _ _ (w .1) (c .if3 .taken))
+    (λ w. found-twice _ _ (c .before .before .pairs .inv .1) _ (w .1 .j) _ (w .5) (c .if3 .taken) (w .2 .taken) (w .3 .ensures) (w .4 .taken))
     (c .before .if1 .came)
 
 all-new : tie.Need-returns-2 Inv-loop μ-loop Inv-pairs μ-pairs
 all-new c =
+    let p = c .before .before .pairs in
     ⊎-elim
-    (λ w. let e : c .before .before .pairs .i ≡ c .before .before .before .before .before .args .n = omega arith in cc)
-    (λ w. absurd (omega arith))
+    (λ w. found-nowhere _ _ (p .inv .1) _ (p .inv .0) (w .0 .taken))
+    (λ w. stopped-at-end _ _ _ (w .5) (w .0 .left) (c .if3 .left))
     (c .before .if1 .came)
 
 pub scan-keys-spec : {M : Type 1} → statement M
@@ -62,11 +67,11 @@ scan-keys-spec =
     (λ c. let start = c .before .before in (start .pre .1 .within, start .pre .1 .fresh))
     (λ c. (omega arith, none-yet _))
     can-read
-    (λ c. search needs)
-    (λ c. search needs)
-    (λ c. (omega arith, some-more _ _ (c .before .before .before .loop .inv .1) (sym (c .before .same-key .ensures) ∙ c .if2 .left)))
-    (λ c. search needs)
-    (λ c. search needs)
+    (λ c. omega arith)
+    (λ c. omega arith)
+    differs
+    (λ c. omega arith)
+    (λ c. omega arith)
     new
     duplicate
     all-new)
