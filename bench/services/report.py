@@ -46,17 +46,22 @@ def spread(median, fastest, slowest):
 
 
 def apart(times, service, records, order):
-    """The ratio without the time of the checksums, or nothing where little else is left to compare."""
-    library, by_eight = (
-        times[service, records, order][1][i] - CHECKSUMS[service] * times["checksum", records, order][1][i] for i in (0, 6)
+    """What is left of the three times without the checksums, and the ratios, or `-` where nothing is left to compare."""
+    library, by_one, by_eight = (
+        times[service, records, order][1][i] - CHECKSUMS[service] * times["checksum", records, order][1][i] for i in (0, 3, 6)
     )
-    return f"{library / by_eight:.2f}" if min(library, by_eight) > 0 else "-"
+    if min(library, by_one, by_eight) <= 0:
+        return "- | - | - | - | -"
+    return (
+        f"{in_words(library)} | {in_words(by_one)} | {library / by_one:.2f} | {in_words(by_eight)} | {library / by_eight:.2f}"
+    )
 
 
 def table(times):
     rows = [
-        "| service | records | order | bytes | library | C, checksum by 1 | ratio | C, checksum by 8 | ratio | ratio without checksums |",
-        "|---|---|---|---|---|---|---|---|---|---|",
+        "| service | records | order | bytes | library | C, checksum by 1 | ratio | C, checksum by 8 | ratio "
+        "| library without checksums | C by 1 without | ratio | C by 8 without | ratio |",
+        "|" + 14 * "---|",
     ]
     for (service, records, order), (size, numbers) in times.items():
         if service not in CHECKSUMS:
