@@ -14,10 +14,9 @@ use Rattle.rules.specs.declared.Verdict.the-variants.{Accepted}
 use Rattle.rules.specs.declared.Written.{Written}
 use Rattle.segment.specs.declared.header.Header.{Header}
 use Rattle.segment.specs.declared.header.Heading.{Heading}
-use Rattle.segment.specs.Format.{v3, headerSize, footerSize, extentSize, fileLimit, recordLimit, inFile, recordsOffset, digestsOffset, extentsOffset, extentCount}
-use Rattle.segment.specs.Check.{bloomPlace}
+use Rattle.segment.specs.Format.{v3, footerSize, extentSize, fileLimit, recordLimit, recordsOffset, digestsOffset, extentsOffset, extentCount}
 use Rattle.segment.specs.Meaning.{Row}
-use Rattle.segment.specs.Tidy.{packed, headerFields, recordsBytes, digestBytes, digestSection, lacking, extentBytes, extentTotal, settled, outputAfter}
+use Rattle.segment.specs.Tidy.{packed, headerFields, headerOver, recordsBytes, digestBytes, digestSection, lacking, extentBytes, extentTotal, settled, outputAfter}
 use Rattle.lines.specs.declared.Sizes.{Sizes}
 
 -- for each of 65,536 records at most 1,024 bytes of digest and 2^32 extents
@@ -29,31 +28,7 @@ pub record Moderate (bloom count : ℕ) (s : Sizes) : Type 0 where
   pub visibility : s .visibility ≤ 1
 
 unfoldable pub headerFor : Heading → ℕ → ℕ → Sizes → Header
-headerFor t bloom count s =
-    let records = headerSize + bloom in
-    let digests = records + 48 * count in
-    let size = s .digests + lacking (s .digests) in
-    record {
-      magic = v3 .magic;
-      version = v3 .version;
-      shard = t .shard;
-      «header_size» = headerSize;
-      «snapshot_min» = t .«snapshot_min»;
-      «snapshot_max» = t .«snapshot_max»;
-      «record_count» = count;
-      «records_offset» = inFile records;
-      «bloom_offset» = inFile (bloomPlace bloom);
-      «bloom_size» = bloom;
-      «digests_offset» = inFile digests;
-      «digests_size» = size;
-      «extents_offset» = inFile (digests + size);
-      «extent_count» = s .extents;
-      domain = t .domain;
-      visibility = s .visibility;
-      federation = 0;
-      reserved = 0;
-      flags = 0;
-    }
+headerFor t bloom count s = headerOver v3 t bloom count (s .digests + lacking (s .digests)) (s .extents) (s .visibility)
 
 pub record Plan (h : Header) (rows : List Row) (used n : ℕ) : Type 0 where
   pub few : length rows ≤ recordLimit

@@ -155,10 +155,11 @@ unfoldable pub largestVisibility : List Row → ℕ
 largestVisibility [] = 0
 largestVisibility (r ∷ rs) = max (r .visibility) (largestVisibility rs)
 
-unfoldable pub formHeader : Shape → Heading → ℕ → List Row → Header
-formHeader sh t bloom rs =
-    let records = headerSize + bloom in
-    let digests = records + sh .recordSize * length rs in
+-- the header over so many bloom bytes, records, bytes of digests with their padding, and extents: one section behind the other
+abbrev pub headerOver : Shape → Heading → (bloom count digests extents visibility : ℕ) → Header
+headerOver sh t bloom count digests extents visibility =
+    let recordsAt = headerSize + bloom in
+    let digestsAt = recordsAt + sh .recordSize * count in
     record {
       magic = sh .magic;
       version = sh .version;
@@ -166,20 +167,23 @@ formHeader sh t bloom rs =
       «header_size» = headerSize;
       «snapshot_min» = t .«snapshot_min»;
       «snapshot_max» = t .«snapshot_max»;
-      «record_count» = length rs;
-      «records_offset» = inFile records;
+      «record_count» = count;
+      «records_offset» = inFile recordsAt;
       «bloom_offset» = inFile (bloomPlace bloom);
       «bloom_size» = bloom;
-      «digests_offset» = inFile digests;
-      «digests_size» = length (digestSection rs);
-      «extents_offset» = inFile (digests + length (digestSection rs));
-      «extent_count» = extentTotal rs;
+      «digests_offset» = inFile digestsAt;
+      «digests_size» = digests;
+      «extents_offset» = inFile (digestsAt + digests);
+      «extent_count» = extents;
       domain = t .domain;
-      visibility = largestVisibility rs;
+      visibility = visibility;
       federation = 0;
       reserved = 0;
       flags = 0;
     }
+
+unfoldable pub formHeader : Shape → Heading → ℕ → List Row → Header
+formHeader sh t bloom rs = headerOver sh t bloom (length rs) (length (digestSection rs)) (extentTotal rs) (largestVisibility rs)
 
 -- every byte before the footer
 unfoldable pub formBody : Shape → Heading → List ℕ → List Row → List ℕ

@@ -1,5 +1,4 @@
 -- `hints::digest_part` meets its contract: three digits, and none after 255.
-use native.Mathlib.Omega.{arith}
 use borrow.Author.Needs.{needs}
 use Rattle.hints.proofs.Leads.{first-stops, second-stops, third-ends}
 use Rattle.hints.proofs.digest_part.Statement.{statement}
