@@ -67,11 +67,11 @@ unfolding entryTotal totalKept
 total-one es k = simp must-both
 
 -- an entry that keeps 15 and 9 has extents that can be counted and read
-pub extents-held : (start length bytes first count listed gone : ℕ) → listsKept start length bytes first count listed ≡ true
+pub extents-held : (start size bytes first count listed gone : ℕ) → listsKept start size bytes first count listed ≡ true
     → placesKept gone first count ≡ true → (first + count ≤ listed) × (count < 4294967296)
 unfolding listsKept placesKept
-extents-held start length bytes first count listed gone a b = (
-  leb-true (first + count) listed (and-iff (leb (start + length) bytes) (leb (first + count) listed) .0 a .1),
+extents-held start size bytes first count listed gone a b = (
+  leb-true (first + count) listed (and-iff (leb (start + size) bytes) (leb (first + count) listed) .0 a .1),
   by-test (eqb gone 1)
       (λ g. let z = eqb-true count 0 (and-iff (eqb first 0) (eqb count 0) .0 (rw g at b) .1) in omega arith)
       (λ g. ltb-true count 4294967296 (and-iff (leb 1 count) (ltb count 4294967296) .0 (rw g at b) .1)),

@@ -1,6 +1,6 @@
 -- The order of keys.
 --   itemLeq    whether an item's key comes no later than another's
--- Assumes nothing: these are definitions.
+-- Assumes nothing: this is a definition.
 use Prim.Native.Nat.{ℕ}
 use mathlib.Core.Bool.{Bool}
 use mathlib.Core.List.{List}

@@ -1,18 +1,18 @@
 -- The numbers of a table that C lends, one after another, and that a table by value says what the bytes say.
 -- Assumes nothing.
-use Prim.Native.Nat.{ℕ, _+_, _-_, _*_, _/_, _%_, _≤_, _<_}
-use mathlib.Core.Path.{_≡_, refl, sym, ap, _∙_}
+use Prim.Native.Nat.{ℕ, _+_, _*_, _/_, _%_, _≤_, _<_}
+use mathlib.Core.Path.{_≡_, sym, ap, _∙_}
 use mathlib.Core.Bool.{false}
 use mathlib.Core.Logic.{_⊎_, inl, inr, ⊎-elim}
-use mathlib.Core.List.{List, [], _++_}
+use mathlib.Core.List.{List, []}
+use native.Mathlib.Nat.{le-refl}
 use native.Mathlib.Omega.{arith}
 use borrow.Author.Tests.{eqb-true, leb-true, leb-false}
 use lib.Dec.{eqb, leb}
-use lib.ListN.{length, getD, take, set, replicate, length-set}
-use lib.Seq.{take-all}
+use lib.ListN.{length, getD, take, set}
 use Rattle.rules.proofs.Order.{tests, by-test}
 use Rattle.store.specs.Table.{goodTable, byValue}
-use Rattle.store.proofs.Pairs.{empty-table, long-table, copied-more, in-front, front-is, front-long}
+use Rattle.store.proofs.Pairs.{empty-table, long-table, Filling, filling-more, in-front, front-is, front-long}
 use Rattle.form.proofs.Counted.{counted-long, counted-at}
 use Rattle.lent.specs.Lent.{wordNo, tableIn, taken}
 
@@ -82,30 +82,10 @@ word bytes count k e l =
     (λ n. let none : count ≡ 0 = e ∙ ap length (n .0) in absurd (omega (arith, none, l)))
     (fits-or-not bytes)
 
--- i numbers have been copied to the front of zeros
-pub record Copying (bytes words : List ℕ) (i : ℕ) : Type 0 where
-  pub within : i ≤ length (taken bytes)
-  pub long : length words ≡ 32
-  pub front : words ≡ take i (taken bytes) ++ replicate (32 - i) 0
-
-pub copying-none : (bytes : List ℕ) → Copying bytes (replicate 32 0) 0
-copying-none bytes = record { within = omega arith; long = refl; front = refl }
-
-module _ (bytes words : List ℕ) (i : ℕ) (c : Copying bytes words i) where
-  pub copying-more : (v : ℕ) → Word bytes i → v ≡ wordNo bytes i → Copying bytes (set words i v) (i + 1)
-  copying-more v w f =
-      let at : getD (taken bytes) i 0 ≡ v = w .is ∙ sym f in
-      record {
-        within = omega (arith, w .among);
-        long = length-set words i v ∙ c .long;
-        front = rw (sym at) (rw (c .front) (copied-more 32 (taken bytes) i (w .place) (w .among)));
-      }
-
-  pub copying-done : length (taken bytes) ≤ i → words ≡ byValue (taken bytes)
-  unfolding byValue
-  copying-done l =
-      let n : i ≡ length (taken bytes) = omega (arith, c .within) in
-      c .front ∙ rw n (ap (λ (q : List ℕ). q ++ replicate (32 - length (taken bytes)) 0) (take-all (length (taken bytes)) (taken bytes) (omega arith)))
+-- one number more is put together
+pub taking-more : (bytes words : List ℕ) (i v : ℕ) → Filling (taken bytes) words i → Word bytes i → v ≡ wordNo bytes i
+    → Filling (taken bytes) (set words i v) (i + 1)
+taking-more bytes words i v c w e = filling-more (taken bytes) words i c v (w .place) (w .among) (e ∙ sym (w .is))
 
 -- what a caller knows of a table that was copied: it is those that the bytes hold, or neither is a good table
 pub record Copied (bytes table : List ℕ) (count : ℕ) : Type 0 where
@@ -116,8 +96,8 @@ pub record Copied (bytes table : List ℕ) (count : ℕ) : Type 0 where
 pub copied : (bytes table : List ℕ) (count : ℕ) → table ≡ byValue (taken bytes) → count ≡ length (taken bytes) → Copied bytes table count
 copied bytes table count e n =
     rw n (record {
-      within = in-front (taken bytes) table e;
-      long = front-long (taken bytes) table e;
+      within = in-front (taken bytes) table e (length (taken bytes)) (le-refl _);
+      long = front-long (taken bytes) table e (length (taken bytes)) (le-refl _);
       alike = rw (front-is (taken bytes) table e) (⊎-elim
           (λ f. inl (all-taken bytes (f .0) (f .1)))
           (λ none. inr (rw (none .0) (sym (empty-table [] (omega arith))), none .1))

@@ -56,12 +56,12 @@ module _ (start count end : ℕ) where
       (λ e. e ∙ sym (le-leb (start + count) end (omega (arith, leb-true count (end - start) e))))
       (λ e. e ∙ sym (lt-leb (start + count) end (omega (arith, leb-false count (end - start) e))))
 
-module _ (start length bytes first count listed : ℕ) (t : Bool) (p : t ≡ leb (start + length) bytes) where
-  pub digest-past : t ≡ false → false ≡ listsKept start length bytes first count listed
+module _ (start size bytes first count listed : ℕ) (t : Bool) (p : t ≡ leb (start + size) bytes) where
+  pub digest-past : t ≡ false → false ≡ listsKept start size bytes first count listed
   unfolding listsKept
   digest-past a = rw (sym p ∙ a)
 
-  pub extents-told : t ≡ true → (u : Bool) → u ≡ leb (first + count) listed → u ≡ listsKept start length bytes first count listed
+  pub extents-told : t ≡ true → (u : Bool) → u ≡ leb (first + count) listed → u ≡ listsKept start size bytes first count listed
   unfolding listsKept
   extents-told a u q = rw (sym p ∙ a) q
 

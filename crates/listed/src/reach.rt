@@ -16,10 +16,10 @@ fn within(start: u64, count: u64, end: u64) -> bool
 }
 
 // Of an entry's digest among `bytes` digest bytes, and of its extents among the `listed` ones.
-pub fn lists_kept(start: u64, length: u64, bytes: u64, first: u64, count: u64, listed: u64) -> bool
-    ensures { λ r. ⌜ r ≡ listsKept start length bytes first count listed ⌝ }
+pub fn lists_kept(start: u64, size: u64, bytes: u64, first: u64, count: u64, listed: u64) -> bool
+    ensures { λ r. ⌜ r ≡ listsKept start size bytes first count listed ⌝ }
 {
-    if within(start, length, bytes) {
+    if within(start, size, bytes) {
         return within(first, count, listed);
     }
     false

@@ -135,14 +135,6 @@ pub sized-table : (p : List ℕ) → 1 ≤ length p → length p ≤ 32 → good
 unfolding goodTable
 sized-table p h l = simp tests
 
--- a list of which i numbers have been copied to the front of n zeros
-pub copied-more : (n : ℕ) (p : List ℕ) (i : ℕ) → i < n → i < length p
-    → set (take i p ++ replicate (n - i) 0) i (getD p i 0) ≡ take (i + 1) p ++ replicate (n - (i + 1)) 0
-copied-more n p i h l =
-    let e : n - i ≡ suc (n - (i + 1)) = omega arith in
-    rw (e, set-at (take i p) 0 (replicate (n - (i + 1)) 0) (getD p i 0) i (length-take-le i p (omega arith)), add-one, take-suc p i 0)
-    (sym (append-snoc (take i p) (getD p i 0) (replicate (n - suc i) 0)))
-
 -- a hash id and a length that a good table allows fit their fields
 pairs-small : (pairs : List ℕ) (hash len : ℕ) → goodPairs pairs ≡ true → allows pairs hash len ≡ true → (hash < 4294967296) × (len ≤ 1024)
 unfolding goodPairs allows
@@ -166,15 +158,42 @@ unfolding goodTable
 sized p e =
     leb-true (length p) 32 (and-iff (leb (length p) 32) (goodPairs p) .0 (and-iff (leb 1 (length p)) (leb (length p) 32 && goodPairs p) .0 e .1) .0)
 
--- what a caller knows of a table that was copied: the list stands in front
-module _ (p numbers : List ℕ) (e : numbers ≡ byValue p) where
-  pub in-front : length p ≤ length numbers
-  unfolding byValue
-  in-front = rw e (simp length-append (omega arith))
+-- one number more is copied to the front of zeros
+copied-more : (n : ℕ) (p : List ℕ) (i : ℕ) → i < n → i < length p
+    → set (take i p ++ replicate (n - i) 0) i (getD p i 0) ≡ take (i + 1) p ++ replicate (n - (i + 1)) 0
+copied-more n p i h l =
+    let e : n - i ≡ suc (n - (i + 1)) = omega arith in
+    rw (e, set-at (take i p) 0 (replicate (n - (i + 1)) 0) (getD p i 0) i (length-take-le i p (omega arith)), add-one, take-suc p i 0)
+    (sym (append-snoc (take i p) (getD p i 0) (replicate (n - suc i) 0)))
 
+-- i numbers of a list have been copied to the front of zeros
+pub record Filling (p words : List ℕ) (i : ℕ) : Type 0 where
+  pub within : i ≤ length p
+  pub front : words ≡ take i p ++ replicate (32 - i) 0
+
+pub filling-none : (p : List ℕ) → Filling p (replicate 32 0) 0
+filling-none p = record { within = omega arith; front = refl }
+
+module _ (p words : List ℕ) (i : ℕ) (c : Filling p words i) where
+  pub filling-more : (v : ℕ) → i < 32 → i < length p → v ≡ getD p i 0 → Filling p (set words i v) (i + 1)
+  filling-more v h l f = record { within = omega arith; front = rw f (rw (c .front) (copied-more 32 p i h l)) }
+
+  pub filling-done : length p ≤ i → words ≡ byValue p
+  unfolding byValue
+  filling-done l =
+      let n : i ≡ length p = omega (arith, c .within) in
+      c .front ∙ rw (n, take-all (length p) p (le-refl _))
+
+-- what a caller knows of a table that was copied: the list stands in front, and so many of its numbers can be lent
+module _ (p numbers : List ℕ) (e : numbers ≡ byValue p) where
   pub front-is : take (length p) numbers ≡ p
   unfolding byValue
   front-is = rw e (take-at p (replicate (32 - length p) 0) (length p) refl)
 
-  pub front-long : length p ≡ length (take (length p) numbers)
-  front-long = sym (ap length front-is)
+  module _ (count : ℕ) (h : count ≤ length p) where
+    pub in-front : count ≤ length numbers
+    unfolding byValue
+    in-front = rw e (simp length-append (omega arith))
+
+    pub front-long : count ≡ length (take count numbers)
+    front-long = sym (length-take-le count numbers in-front)

@@ -2,12 +2,14 @@
 use Prim.Native.Nat.{_-_}
 use borrow.Author.Needs.{needs}
 use native.Mathlib.Omega.{arith}
-use Rattle.lent.proofs.Taking.{Copying, copying-none, copying-more, copying-done, word}
+use Rattle.store.proofs.Pairs.{Filling, filling-none, filling-done}
+use Rattle.lent.specs.Lent.{taken}
+use Rattle.lent.proofs.Taking.{word, taking-more}
 use Rattle.lent.proofs.numbers_in.Statement.{statement}
 use Rattle.lent.proofs.numbers_in.Tie as tie
 
 abbrev Inv-loop : tie.InvT-loop
-Inv-loop bytes table₀ count i₀ table i = Copying bytes table i
+Inv-loop bytes table₀ count i₀ table i = Filling (taken bytes) table i
 
 abbrev μ-loop : tie.MeasureT-loop
 μ-loop bytes table₀ count i₀ table i = count - i
@@ -19,12 +21,12 @@ numbers-in-spec =
     Inv-loop
     μ-loop
     (λ c κs. search needs)
-    (λ c. copying-none _)
+    (λ c. filling-none _)
     (λ c. let w = word _ _ (c .before .loop .i) (c .before .before .count-in .ensures) (omega arith) in omega (arith, w .place))
     (λ c κs. let w = word _ _ (c .before .loop .i) (c .before .before .count-in .ensures) (omega arith) in omega (arith, w .inside))
     (λ c. let w = word _ _ (c .before .before .loop .i) (c .before .before .before .count-in .ensures) (omega arith) in omega (arith, w .place))
     (λ c. word _ _ (c .before .before .loop .i) (c .before .before .before .count-in .ensures) (omega arith) .place)
     (λ c. let w = word _ _ (c .before .before .loop .i) (c .before .before .before .count-in .ensures) (omega arith) in omega (arith, w .place))
     (λ c. omega arith)
-    (λ c. let at = c .before .before in copying-more _ _ _ (at .loop .inv) _ (word _ _ (at .loop .i) (at .before .count-in .ensures) (omega arith)) (c .u64-at .ensures))
-    (λ c. copying-done _ _ _ (c .before .loop .inv) (omega (arith, c .before .before .count-in .ensures))))
+    (λ c. let at = c .before .before in taking-more _ _ _ _ (at .loop .inv) (word _ _ (at .loop .i) (at .before .count-in .ensures) (omega arith)) (c .u64-at .ensures))
+    (λ c. filling-done _ _ _ (c .before .loop .inv) (omega (arith, c .before .before .count-in .ensures))))
