@@ -4,28 +4,28 @@ use Prim.Native.Nat.{ℕ}
 use mathlib.Core.Path.{_≡_, sym, ap, _∙_}
 use mathlib.Core.List.{List}
 use lib.ListN.{take}
-use Rattle.rules.specs.declared.Refusal.{Refusal}
-use Rattle.rules.specs.declared.Refusal.the-variants.{Table as TableWrong}
-use Rattle.rules.specs.declared.Verdict.{Verdict}
-use Rattle.rules.specs.declared.Verdict.the-variants.{Accepted, Refused}
-use Rattle.rules.specs.declared.Found.{Found}
-use Rattle.rules.specs.declared.Found.the-variants.{Refused as NotFound}
-use Rattle.rules.specs.declared.Written.{Written}
-use Rattle.rules.specs.declared.Written.the-variants.{Refused as NotWritten}
-use Rattle.rules.specs.Answers.{numberOf, placeOf, checkAnswer, foundAnswer, writtenAnswer}
-use Rattle.rules.proofs.Settled.{found-settled}
+use Rattle.answer.specs.declared.Refusal.{Refusal}
+use Rattle.answer.specs.declared.Refusal.the-variants.{Table as TableWrong}
+use Rattle.answer.specs.declared.Verdict.{Verdict}
+use Rattle.answer.specs.declared.Verdict.the-variants.{Accepted, Refused}
+use Rattle.answer.specs.declared.Found.{Found}
+use Rattle.answer.specs.declared.Found.the-variants.{Refused as NotFound}
+use Rattle.answer.specs.declared.Written.{Written}
+use Rattle.answer.specs.declared.Written.the-variants.{Refused as NotWritten}
+use Rattle.answer.specs.Answers.{numberOf, placeOf, checkAnswer, foundAnswer, writtenAnswer}
+use Rattle.answer.proofs.Settled.{found-settled}
 use Rattle.segment.specs.Check.{checkOf}
 use Rattle.segment.specs.LookUp.{lookedUp, lookUpOf}
 use Rattle.segment.specs.Tidy.{Outcome, outcome, tidyOf}
 use Rattle.segment.specs.Write.{Request, writeOf}
-use Rattle.accept.proofs.Whole.{table-bad as check-bad}
-use Rattle.find.proofs.Finding.{table-bad as look-up-bad}
-use Rattle.tidy.proofs.Reading.{table-bad as tidy-bad}
-use Rattle.seal.proofs.Asking.{table-bad as write-bad}
-use Rattle.boundary.specs.declared.Reply.{Reply}
-use Rattle.boundary.specs.Boundary.{told, replyOf, lookedUpBy, replyLeft, sizeAfter, sealedBy, sealedAs}
-use Rattle.lent.specs.Lent.{tableIn}
-use Rattle.lent.proofs.Taking.{Copied, alike-said}
+use Rattle.check_segment.proofs.SegmentOrder.{table-bad as check-bad}
+use Rattle.look_up.proofs.Finding.{table-bad as look-up-bad}
+use Rattle.tidy.proofs.TidyRead.{table-bad as tidy-bad}
+use Rattle.write.proofs.RequestItems.{table-bad as write-bad}
+use Rattle.c_answer.specs.declared.Reply.{Reply}
+use Rattle.c_answer.specs.Boundary.{told, replyOf, lookedUpBy, replyLeft, sizeAfter, sealedBy, sealedAs}
+use Rattle.c_table.specs.Lent.{tableIn}
+use Rattle.c_table.proofs.Taking.{Copied, alike-said}
 
 module _ (bytes table : List ℕ) (count : ℕ) (l : Copied bytes table count) where
   abbrev part : List ℕ

@@ -7,14 +7,14 @@ use mathlib.Core.Path.{_≡_, refl, sym, ap, _∙_}
 use mathlib.Core.List.{List}
 use lib.Dec.{eqb, leb}
 use lib.ListN.{length}
-use Rattle.rules.specs.declared.Written.{Written}
-use Rattle.rules.specs.declared.Written.the-variants.{Done, Refused}
-use Rattle.rules.specs.Answers.{Answer}
-use Rattle.rules.proofs.Order.{by-test}
+use Rattle.answer.specs.declared.Written.{Written}
+use Rattle.answer.specs.declared.Written.the-variants.{Done, Refused}
+use Rattle.answer.specs.Answers.{Answer}
+use Rattle.lists.proofs.Tests.{by-test}
 use Rattle.segment.specs.Tidy.{outcome, outputAfter, tidied, tidyOf}
 use Rattle.segment.specs.Write.{Request, wrote, writeOf}
-use Rattle.boundary.specs.declared.Reply.{Reply}
-use Rattle.boundary.specs.Boundary.{told, LookedUp, lookedUpBy, replyLeft, Sealed, sealedBy, sealedAs}
+use Rattle.c_answer.specs.declared.Reply.{Reply}
+use Rattle.c_answer.specs.Boundary.{told, LookedUp, lookedUpBy, replyLeft, Sealed, sealedBy, sealedAs}
 
 pub look-up-keeps : (a : Reply) (found : List ℕ) → (replyLeft a found .number ≡ 0 → ⊥) → replyLeft a found .found ≡ found
 unfolding replyLeft

@@ -5,24 +5,24 @@ ghost use Rattle.segment.specs.Check.{checkOf};
 ghost use Rattle.segment.specs.LookUp.{lookedUp};
 ghost use Rattle.segment.specs.Tidy.{tidyOf};
 ghost use Rattle.segment.specs.Write.{writeOf};
-ghost use Rattle.seal.specs.Seal.{asked};
-ghost use Rattle.lent.specs.Lent.{tableIn};
-ghost use Rattle.boundary.specs.Boundary.{told, replyOf, lookedUpBy, replyLeft, headed, sealedBy, sealedAs};
-use rules::Verdict;
+ghost use Rattle.write.specs.Seal.{asked};
+ghost use Rattle.c_table.specs.Lent.{tableIn};
+ghost use Rattle.c_answer.specs.Boundary.{told, replyOf, lookedUpBy, replyLeft, headed, sealedBy, sealedAs};
+use answer::Verdict;
 use segment::header::Heading;
 
 #[no_mangle]
 pub extern "C" fn asl_check(table: &[u8], segment: &[u8], place: &mut u64) -> u64
     ensures { λ r. ⌜ told r (now (place .exit)) ≡ checkOf (tableIn (now (table .entry))) (now (segment .entry)) ⌝ }
 {
-    let numbers = lent::numbers_in(table);
-    let count = lent::count_in(table);
-    match accept::check(&numbers[..count], segment) {
+    let numbers = c_table::numbers_in(table);
+    let count = c_table::count_in(table);
+    match check_segment::check(&numbers[..count], segment) {
         Verdict::Accepted => {
             *place = 0;
             0
         }
-        Verdict::Refused(r) => boundary::refuse(r, place),
+        Verdict::Refused(r) => c_answer::refuse(r, place),
     }
 }
 
@@ -38,10 +38,10 @@ pub extern "C" fn asl_look_up(
 ) -> u64
     ensures { λ r. ⌜ lookedUpBy r (now (place .exit)) (now (found .exit)) ≡ replyLeft (replyOf (lookedUp (tableIn (now (table .entry))) (now (segment .entry)) «hash_id» (now (digest .entry)))) (now (found .entry)) ⌝ }
 {
-    let numbers = lent::numbers_in(table);
-    let count = lent::count_in(table);
-    let answer = find::look_up(&numbers[..count], segment, hash_id, digest);
-    boundary::leave(boundary::in_numbers(answer), found, place)
+    let numbers = c_table::numbers_in(table);
+    let count = c_table::count_in(table);
+    let answer = look_up::look_up(&numbers[..count], segment, hash_id, digest);
+    c_answer::leave(c_answer::in_numbers(answer), found, place)
 }
 
 #[no_mangle]
@@ -54,10 +54,10 @@ pub extern "C" fn asl_tidy(
 ) -> u64
     ensures { λ r. ⌜ sealedBy r (now (place .exit)) (now (size .exit)) (now (out .exit)) ≡ sealedAs (tidyOf (tableIn (now (table .entry))) (now (segment .entry)) (now (out .entry))) (now (size .entry)) ⌝ }
 {
-    let numbers = lent::numbers_in(table);
-    let count = lent::count_in(table);
+    let numbers = c_table::numbers_in(table);
+    let count = c_table::count_in(table);
     let answer = tidy::tidy(&numbers[..count], segment, out);
-    boundary::settle(answer, size, place)
+    c_answer::settle(answer, size, place)
 }
 
 #[no_mangle]
@@ -79,8 +79,8 @@ pub extern "C" fn asl_write(
 ) -> u64
     ensures { λ r. ⌜ sealedBy r (now (place .exit)) (now (size .exit)) (now (out .exit)) ≡ sealedAs (writeOf (tableIn (now (table .entry))) (asked (headed shard «snapshot_min» «snapshot_max» domain «seal_snapshot» «seal_time») (now (bloom .entry)) (now (entries .entry)) (now (digests .entry)) (now (extents .entry))) (now (out .entry))) (now (size .entry)) ⌝ }
 {
-    let numbers = lent::numbers_in(table);
-    let count = lent::count_in(table);
+    let numbers = c_table::numbers_in(table);
+    let count = c_table::count_in(table);
     let heading = Heading {
         shard,
         snapshot_min,
@@ -89,7 +89,7 @@ pub extern "C" fn asl_write(
         seal_snapshot,
         seal_time,
     };
-    let answer = seal::write(
+    let answer = write::write(
         &numbers[..count],
         heading,
         bloom,
@@ -98,5 +98,5 @@ pub extern "C" fn asl_write(
         extents,
         out,
     );
-    boundary::settle(answer, size, place)
+    c_answer::settle(answer, size, place)
 }

@@ -2,20 +2,20 @@
 // the entry points for C, in `calls`.
 pub mod calls;
 
-pub use accept::check;
-pub use extents::extents_of;
-pub use find::look_up;
-pub use pairs::Length;
-pub use pairs::Pair;
-pub use pairs::length_in;
-pub use refusals::number;
-pub use refusals::place;
-pub use rules::Found;
-pub use rules::Refusal;
-pub use rules::Source;
-pub use rules::Verdict;
-pub use rules::Written;
-pub use seal::write;
+pub use check_segment::check;
+pub use look_up_extents::extents_of;
+pub use look_up::look_up;
+pub use table_pairs::Length;
+pub use table_pairs::Pair;
+pub use table_pairs::length_in;
+pub use answer_number::number;
+pub use answer_number::place;
+pub use answer::Found;
+pub use answer::Refusal;
+pub use answer::Source;
+pub use answer::Verdict;
+pub use answer::Written;
+pub use write::write;
 pub use segment::header::Heading;
 pub use segment::record::Record;
 pub use segment::step::Step;

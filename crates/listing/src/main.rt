@@ -3,12 +3,12 @@
 ghost use mathlib.Core.Path.{_≡_};
 ghost use Prim.Native.Nat.{_≤_};
 ghost use lib.ListN.{length};
-ghost use Rattle.rules.specs.declared.Verdict.the-variants.{Accepted};
+ghost use Rattle.answer.specs.declared.Verdict.the-variants.{Accepted};
 ghost use Rattle.segment.specs.Check.{checked};
 use libc::STDIN_FILENO;
 use libc::STDOUT_FILENO;
-use places::Place;
-use text::Task;
+use list_place::Place;
+use list_text::Task;
 
 // The most that is listed. One byte more is read, to notice a longer input.
 const MOST: usize = 65536;
@@ -57,10 +57,10 @@ fn write_listing(pairs: &[u64], seg: &[u8], out: &mut [u8])
 {
     let mut place = Place::RecordCount;
     loop {
-        if places::is_done(place) {
+        if list_place::is_done(place) {
             return;
         }
-        let stop = text::fill(pairs, seg, place, out);
+        let stop = list_text::fill(pairs, seg, place, out);
         let end = stop.end;
         if !write(&out[..end]) {
             return;
@@ -72,7 +72,7 @@ fn write_listing(pairs: &[u64], seg: &[u8], out: &mut [u8])
 fn list(seg: &[u8]) {
     let table = [1u64, 32, 7, 4];
     let mut line = [0u8; 64];
-    match text::start(&table, seg, &mut line) {
+    match list_text::start(&table, seg, &mut line) {
         Task::Refused(end) => {
             write(&line[..end]);
         }

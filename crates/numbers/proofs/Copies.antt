@@ -8,7 +8,7 @@ use native.Mathlib.Omega.{arith}
 use lib.ListN.{length, length-set, getD, set, take}
 use lib.Seq.{take-all, take-suc, length-take-le}
 use Rattle.numbers.specs.Numbers.{put}
-use Rattle.numbers.proofs.Laws.{put-put, put-none, set-put}
+use Rattle.numbers.proofs.NumberLaws.{put-put, put-none, set-put}
 
 pub record Copying (from out₀ : List ℕ) (at i : ℕ) (out : List ℕ) : Type 0 where
   pub within : i ≤ length from

@@ -5,9 +5,9 @@ use mathlib.Core.Path.{_≡_, refl}
 use native.Mathlib.Omega.{arith}
 use borrow.Author.Tests.{eqb-true, eqb-false}
 use lib.Dec.{eqb}
-use Rattle.rules.specs.declared.Source.{Source}
-use Rattle.rules.specs.declared.Source.the-variants.{None, Domain}
-use Rattle.rules.proofs.Order.{by-test}
+use Rattle.answer.specs.declared.Source.{Source}
+use Rattle.answer.specs.declared.Source.the-variants.{None, Domain}
+use Rattle.lists.proofs.Tests.{by-test}
 use Rattle.segment.specs.Meaning.{sourceOf}
 use Rattle.segment.specs.Tidy.{importedOf, domainOf}
 

@@ -9,7 +9,7 @@ use mathlib.Core.List.{List, [], _∷_}
 use lib.Dec.{leb, eqb}
 use lib.ListN.{length, take, drop}
 use Rattle.crc64.specs.Crc.{crc}
-use Rattle.rules.specs.declared.Refusal.the-variants.{
+use Rattle.answer.specs.declared.Refusal.the-variants.{
   Size,
   Magic,
   Version,
@@ -22,9 +22,9 @@ use Rattle.rules.specs.declared.Refusal.the-variants.{
   Total,
   Visibility,
 }
-use Rattle.rules.specs.declared.Verdict.{Verdict}
-use Rattle.rules.specs.Rules.{must, _then_, firstOver}
-use Rattle.rules.specs.Answers.{Answer, checkAnswer}
+use Rattle.answer.specs.declared.Verdict.{Verdict}
+use Rattle.answer.specs.Rules.{must, _then_, firstOver}
+use Rattle.answer.specs.Answers.{Answer, checkAnswer}
 use Rattle.segment.specs.declared.header.Header.{Header}
 use Rattle.segment.specs.declared.record.Record.{Record}
 use Rattle.segment.specs.declared.extent.Extent.{Extent}
@@ -51,7 +51,7 @@ use Rattle.segment.specs.Format.{
   recordNo,
   extentsIn,
 }
-use Rattle.store.specs.Table.{tableVerdict, allows}
+use Rattle.table.specs.Table.{tableVerdict, allows}
 use Rattle.segment.specs.Keys.{keyOf, freshKey}
 
 -- 1: shorter than 136 or longer than the limit

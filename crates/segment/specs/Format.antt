@@ -8,8 +8,8 @@ use Prim.Native.Nat.{ℕ, zero, suc, _+_, _*_}
 use mathlib.Core.List.{List, [], _∷_}
 use lib.ListN.{length}
 use Rattle.numbers.specs.Numbers.{numAt}
-use Rattle.parts.specs.declared.FileOffset.{FileOffset}
-use Rattle.parts.specs.declared.BlockOffset.{BlockOffset}
+use Rattle.field_record.specs.declared.FileOffset.{FileOffset}
+use Rattle.field_record.specs.declared.BlockOffset.{BlockOffset}
 use Rattle.segment.specs.declared.header.Header.{Header}
 use Rattle.segment.specs.declared.record.Record.{Record}
 use Rattle.segment.specs.declared.extent.Extent.{Extent}

@@ -9,17 +9,18 @@ use Prim.Native.Nat.{ℕ, zero, suc, _*_}
 use mathlib.Core.Bool.{cond}
 use mathlib.Core.List.{List, []}
 use lib.ListN.{length, take, drop}
-use Rattle.rules.specs.declared.Refusal.the-variants.{Key}
-use Rattle.rules.specs.declared.Verdict.{Verdict}
-use Rattle.rules.specs.declared.Found.{Found}
-use Rattle.rules.specs.declared.Found.the-variants.{Absent, Gone, Present, Refused}
-use Rattle.rules.specs.Rules.{must, _then_, after}
-use Rattle.rules.specs.Answers.{Answer, foundAnswer}
+use Rattle.answer.specs.declared.Refusal.the-variants.{Key}
+use Rattle.answer.specs.declared.Verdict.{Verdict}
+use Rattle.answer.specs.declared.Found.{Found}
+use Rattle.answer.specs.declared.Found.the-variants.{Absent, Gone, Present, Refused}
+use Rattle.answer.specs.Rules.{must, _then_, after}
+use Rattle.answer.specs.Answers.{Answer, foundAnswer}
 use Rattle.segment.specs.declared.header.Header.{Header}
 use Rattle.segment.specs.declared.record.Record.{Record}
 use Rattle.segment.specs.Format.{Shape, v3, extentSize, headerOf, recordCount, recordNo}
-use Rattle.store.specs.Table.{tableVerdict, allows}
-use Rattle.segment.specs.Keys.{keyOf, eqList}
+use Rattle.table.specs.Table.{tableVerdict, allows}
+use Rattle.segment.specs.Keys.{keyOf}
+use Rattle.lists.specs.Lists.{eqList}
 use Rattle.segment.specs.Check.{isGone, keyNo, segmentVerdict}
 use Rattle.segment.specs.Meaning.{sourceOf}
 

@@ -4,15 +4,15 @@
 --   meaningOf       the meaning of an accepted segment
 --   SameMeaning     two meanings are the same
 -- Assumes nothing: these are definitions.
-use Prim.Native.Nat.{ℕ, zero, suc, _-_}
+use Prim.Native.Nat.{ℕ, _-_}
 use mathlib.Core.Path.{_≡_}
 use mathlib.Core.Bool.{cond}
 use mathlib.Core.Logic.{_↔_}
-use mathlib.Core.List.{List, [], _∷_, map, List·Mem}
+use mathlib.Core.List.{List, [], map, List·Mem}
 use lib.Dec.{eqb}
 use lib.ListN.{length, take, drop}
-use Rattle.rules.specs.declared.Source.{Source}
-use Rattle.rules.specs.declared.Source.the-variants.{None, Domain}
+use Rattle.answer.specs.declared.Source.{Source}
+use Rattle.answer.specs.declared.Source.the-variants.{None, Domain}
 use Rattle.segment.specs.declared.header.Header.{Header}
 use Rattle.segment.specs.declared.header.Heading.{Heading}
 use Rattle.segment.specs.declared.record.Record.{Record}
@@ -63,11 +63,6 @@ rowOf s r = record {
 
 unfoldable pub rowNo : Shape → List ℕ → Header → ℕ → Row
 rowNo sh s h k = rowOf s (recordNo sh s h k)
-
--- k, k + 1, .., n of them
-unfoldable pub countFrom : ℕ → ℕ → List ℕ
-countFrom k zero = []
-countFrom k (suc n) = k ∷ countFrom (suc k) n
 
 -- the records of a segment, in the file's order
 unfoldable pub rowsOf : Shape → List ℕ → Header → List Row

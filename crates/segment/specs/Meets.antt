@@ -32,7 +32,7 @@ use Rattle.segment.specs.Format.{
   recordNo,
   extentsIn,
 }
-use Rattle.store.specs.Table.{allows}
+use Rattle.table.specs.Table.{allows}
 use Rattle.segment.specs.Keys.{NoKeyTwice}
 use Rattle.segment.specs.Check.{sumLengths, visibilityNo, keyNo}
 

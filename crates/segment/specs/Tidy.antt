@@ -12,21 +12,21 @@ use lib.Dec.{leb, eqb}
 use lib.ListN.{length, drop, replicate}
 use Rattle.numbers.specs.Numbers.{bytesOf}
 use Rattle.crc64.specs.Crc.{crc}
-use Rattle.rules.specs.declared.Refusal.the-variants.{Room, Large}
-use Rattle.rules.specs.declared.Source.{Source}
-use Rattle.rules.specs.declared.Source.the-variants.{None, Domain}
-use Rattle.rules.specs.declared.Verdict.{Verdict}
-use Rattle.rules.specs.declared.Written.{Written}
-use Rattle.rules.specs.declared.Written.the-variants.{Done, Refused}
-use Rattle.rules.specs.Rules.{must, _then_, after}
-use Rattle.rules.specs.Answers.{Answer, writtenAnswer}
+use Rattle.answer.specs.declared.Refusal.the-variants.{Room, Large}
+use Rattle.answer.specs.declared.Source.{Source}
+use Rattle.answer.specs.declared.Source.the-variants.{None, Domain}
+use Rattle.answer.specs.declared.Verdict.{Verdict}
+use Rattle.answer.specs.declared.Written.{Written}
+use Rattle.answer.specs.declared.Written.the-variants.{Done, Refused}
+use Rattle.answer.specs.Rules.{must, _then_, after}
+use Rattle.answer.specs.Answers.{Answer, writtenAnswer}
 use Rattle.segment.specs.declared.header.Header.{Header}
 use Rattle.segment.specs.declared.header.Heading.{Heading}
 use Rattle.segment.specs.declared.record.Record.{Record}
 use Rattle.segment.specs.declared.extent.Extent.{Extent}
 use Rattle.segment.specs.declared.footer.Footer.{Footer}
 use Rattle.segment.specs.Format.{Shape, v3, headerSize, extentSize, fileLimit, inFile}
-use Rattle.segment.specs.Keys.{lexLeq, sortBy}
+use Rattle.lists.specs.Lists.{lexLeq, sortBy}
 use Rattle.segment.specs.Check.{sumLengths, bloomPlace, checked}
 use Rattle.segment.specs.Meaning.{State, gone, live, Row, rowKey, rowExtents, Meaning, meaningOf}
 

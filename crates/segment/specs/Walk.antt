@@ -8,8 +8,8 @@ use Prim.Native.Nat.{ℕ, suc}
 use mathlib.Core.Bool.{cond}
 use mathlib.Core.List.{List, [], _∷_}
 use lib.Dec.{ltb}
-use Rattle.rules.specs.Rules.{after}
-use Rattle.rules.specs.Answers.{Answer, answered, refused}
+use Rattle.answer.specs.Rules.{after}
+use Rattle.answer.specs.Answers.{Answer, answered, refused}
 use Rattle.segment.specs.declared.record.Record.{Record}
 use Rattle.segment.specs.declared.step.Step.{Step}
 use Rattle.segment.specs.declared.step.Step.the-variants.{Row, Done, Refused}

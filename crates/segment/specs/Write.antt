@@ -12,18 +12,19 @@ use mathlib.Core.Bool.{Bool, true, cond, _&&_, _||_}
 use mathlib.Core.List.{List, [], _∷_, map}
 use lib.Dec.{leb, ltb, eqb}
 use lib.ListN.{length, getD, take, drop}
-use Rattle.rules.specs.declared.Refusal.the-variants.{Layout, Record, Digest, Extents, Total, List as ListEnd, Large}
-use Rattle.rules.specs.declared.Verdict.{Verdict}
-use Rattle.rules.specs.declared.Written.{Written}
-use Rattle.rules.specs.Rules.{must, _then_, firstOver}
+use Rattle.answer.specs.declared.Refusal.the-variants.{Layout, Record, Digest, Extents, Total, List as ListEnd, Large}
+use Rattle.answer.specs.declared.Verdict.{Verdict}
+use Rattle.answer.specs.declared.Written.{Written}
+use Rattle.answer.specs.Rules.{must, _then_, firstOver}
 use Rattle.segment.specs.declared.header.Heading.{Heading}
 use Rattle.segment.specs.declared.entry.Entry.{Entry}
 use Rattle.segment.specs.declared.extent.Extent.{Extent}
 use Rattle.segment.specs.Format.{Shape, v3, recordLimit, inBlock}
-use Rattle.store.specs.Table.{tableVerdict, allows}
+use Rattle.table.specs.Table.{tableVerdict, allows}
 use Rattle.segment.specs.Keys.{keyOf, freshKey}
 use Rattle.segment.specs.Check.{extentFits, sumLengths}
-use Rattle.segment.specs.Meaning.{gone, live, Row, Meaning, sourceOf, countFrom}
+use Rattle.segment.specs.Meaning.{gone, live, Row, Meaning, sourceOf}
+use Rattle.lists.specs.Lists.{countFrom}
 use Rattle.segment.specs.Tidy.{tidyForm, settled, outputAfter, Outcome, outcome}
 
 pub record Request : Type 0 where

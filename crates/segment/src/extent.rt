@@ -3,7 +3,7 @@ ghost use mathlib.Core.Path.{_≡_};
 ghost use Prim.Native.Nat.{_+_, _≤_};
 ghost use lib.ListN.{length};
 ghost use Rattle.segment.specs.Format.{extentOf};
-use parts::BlockOffset;
+use field_record::BlockOffset;
 
 pub struct Extent {
     pub block: u64,
@@ -23,9 +23,9 @@ impl Extent {
         ensures { λ r. ⌜ r ≡ extentOf (now (seg .entry)) at ⌝ }
     {
         Self {
-            block: parts::extent::block(seg, at),
-            offset: parts::extent::offset(seg, at),
-            length: parts::extent::length(seg, at),
+            block: field_record::extent::block(seg, at),
+            offset: field_record::extent::offset(seg, at),
+            length: field_record::extent::length(seg, at),
         }
     }
 }

@@ -22,9 +22,9 @@ impl Footer {
         ensures { λ r. ⌜ r ≡ footerOf (now (seg .entry)) at ⌝ }
     {
         Self {
-            checksum: frame::footer::checksum(seg, at),
-            seal_snapshot: frame::footer::seal_snapshot(seg, at),
-            seal_time: frame::footer::seal_time(seg, at),
+            checksum: field_frame::footer::checksum(seg, at),
+            seal_snapshot: field_frame::footer::seal_snapshot(seg, at),
+            seal_time: field_frame::footer::seal_time(seg, at),
         }
     }
 }

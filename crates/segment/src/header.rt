@@ -4,7 +4,7 @@ ghost use Prim.Native.Nat.{_≤_};
 ghost use lib.ListN.{length};
 ghost use Rattle.segment.specs.Format.{headerOf};
 ghost use Rattle.segment.specs.Check.{bloomPlace};
-use parts::FileOffset;
+use field_record::FileOffset;
 
 pub struct Header {
     pub magic: u64,
@@ -57,25 +57,25 @@ impl Header {
         ensures { λ r. ⌜ r ≡ headerOf (now (seg .entry)) ⌝ }
     {
         Self {
-            magic: frame::header::magic(seg),
-            version: frame::header::version(seg),
-            shard: frame::header::shard(seg),
-            header_size: frame::header::header_size(seg),
-            snapshot_min: frame::header::snapshot_min(seg),
-            snapshot_max: frame::header::snapshot_max(seg),
-            record_count: frame::header::record_count(seg),
-            records_offset: frame::header::records_offset(seg),
-            bloom_offset: frame::header::bloom_offset(seg),
-            bloom_size: frame::header::bloom_size(seg),
-            digests_offset: frame::header::digests_offset(seg),
-            digests_size: frame::header::digests_size(seg),
-            extents_offset: frame::header::extents_offset(seg),
-            extent_count: frame::header::extent_count(seg),
-            domain: frame::header::domain(seg),
-            visibility: frame::header::visibility(seg),
-            federation: frame::header::federation(seg),
-            reserved: frame::header::reserved(seg),
-            flags: frame::header::flags(seg),
+            magic: field_frame::header::magic(seg),
+            version: field_frame::header::version(seg),
+            shard: field_frame::header::shard(seg),
+            header_size: field_frame::header::header_size(seg),
+            snapshot_min: field_frame::header::snapshot_min(seg),
+            snapshot_max: field_frame::header::snapshot_max(seg),
+            record_count: field_frame::header::record_count(seg),
+            records_offset: field_frame::header::records_offset(seg),
+            bloom_offset: field_frame::header::bloom_offset(seg),
+            bloom_size: field_frame::header::bloom_size(seg),
+            digests_offset: field_frame::header::digests_offset(seg),
+            digests_size: field_frame::header::digests_size(seg),
+            extents_offset: field_frame::header::extents_offset(seg),
+            extent_count: field_frame::header::extent_count(seg),
+            domain: field_frame::header::domain(seg),
+            visibility: field_frame::header::visibility(seg),
+            federation: field_frame::header::federation(seg),
+            reserved: field_frame::header::reserved(seg),
+            flags: field_frame::header::flags(seg),
         }
     }
 }

@@ -3,7 +3,7 @@ ghost use mathlib.Core.Path.{_≡_};
 ghost use Prim.Native.Nat.{_+_, _≤_};
 ghost use lib.ListN.{length};
 ghost use Rattle.segment.specs.Format.{v3, recordOf};
-use parts::FileOffset;
+use field_record::FileOffset;
 
 pub struct Record {
     pub hash_id: u32,
@@ -33,19 +33,19 @@ impl Record {
         ensures { λ r. ⌜ r ≡ recordOf v3 (now (seg .entry)) at ⌝ }
     {
         Self {
-            hash_id: parts::record::hash_id(seg, at),
-            digest_length: parts::record::digest_length(seg, at),
-            reserved: parts::record::reserved(seg, at),
-            digest_offset: parts::record::digest_offset(seg, at),
-            extents_offset: parts::record::extents_offset(seg, at),
-            extent_count: parts::record::extent_count(seg, at),
-            total_length: parts::record::total_length(seg, at),
-            domain: parts::record::domain(seg, at),
-            visibility: parts::record::visibility(seg, at),
-            imported: parts::record::imported(seg, at),
-            reserved_last: parts::record::reserved_last(seg, at),
-            source: parts::record::source(seg, at),
-            flags: parts::record::flags(seg, at),
+            hash_id: field_record::record::hash_id(seg, at),
+            digest_length: field_record::record::digest_length(seg, at),
+            reserved: field_record::record::reserved(seg, at),
+            digest_offset: field_record::record::digest_offset(seg, at),
+            extents_offset: field_record::record::extents_offset(seg, at),
+            extent_count: field_record::record::extent_count(seg, at),
+            total_length: field_record::record::total_length(seg, at),
+            domain: field_record::record::domain(seg, at),
+            visibility: field_record::record::visibility(seg, at),
+            imported: field_record::record::imported(seg, at),
+            reserved_last: field_record::record::reserved_last(seg, at),
+            source: field_record::record::source(seg, at),
+            flags: field_record::record::flags(seg, at),
         }
     }
 }

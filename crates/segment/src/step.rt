@@ -1,6 +1,6 @@
 // What a step of the walk answers: every field of the record at its place, that the records are done, or a refusal.
 use crate::record::Record;
-use rules::Refusal;
+use answer::Refusal;
 
 pub enum Step {
     Row(Record),

@@ -4,15 +4,15 @@ ghost use mathlib.Core.Bool.{true};
 ghost use Prim.Native.Nat.{_≤_};
 ghost use lib.ListN.{length};
 ghost use Rattle.segment.specs.Format.{v3};
-ghost use Rattle.store.specs.Table.{goodTable};
+ghost use Rattle.table.specs.Table.{goodTable};
 ghost use Rattle.segment.specs.Check.{segmentVerdict};
 ghost use Rattle.segment.specs.Meaning.{headingOf, meaningOf};
 ghost use Rattle.segment.specs.Tidy.{tidyForm, outcome, tidyOf};
-ghost use Rattle.emit.specs.Emit.{Left};
-use keys::Kind;
-use rules::Refusal;
-use rules::Verdict;
-use rules::Written;
+ghost use Rattle.put_form.specs.Emit.{Left};
+use key::Kind;
+use answer::Refusal;
+use answer::Verdict;
+use answer::Written;
 use segment::footer::Footer;
 use segment::header::Header;
 use segment::header::Heading;
@@ -38,7 +38,7 @@ fn tidy_under(pairs: &[u64], seg: &[u8], out: &mut [u8]) -> Written
     requires { ⌜ goodTable (now pairs) ≡ true ⌝ }
     ensures { λ r. ⌜ Left (segmentVerdict v3 (now (pairs .entry)) (now (seg .entry))) (tidyForm v3 (meaningOf v3 (now (seg .entry)))) (now (out .entry)) (now (out .exit)) r ⌝ }
 {
-    match accept::check_segment(pairs, seg) {
+    match check_segment::check_segment(pairs, seg) {
         Verdict::Refused(x) => {
             return Written::Refused(x);
         }
@@ -49,7 +49,7 @@ fn tidy_under(pairs: &[u64], seg: &[u8], out: &mut [u8]) -> Written
     let end = Header::SIZE + h.bloom_size as usize;
     let records = Kind::Records(h.records_offset.0 as usize);
     let n = h.record_count as usize;
-    arrange::put_tidy(
+    put_tidy::put_tidy(
         t,
         &seg[Header::SIZE..end],
         records,
@@ -65,10 +65,10 @@ fn tidy_under(pairs: &[u64], seg: &[u8], out: &mut [u8]) -> Written
 pub fn tidy(pairs: &[u64], seg: &[u8], out: &mut [u8]) -> Written
     ensures { λ r. ⌜ outcome r (now (out .exit)) ≡ tidyOf (now (pairs .entry)) (now (seg .entry)) (now (out .entry)) ⌝ }
 {
-    if !store::good(pairs) {
+    if !table::good(pairs) {
         return Written::Refused(Refusal::Table);
     }
-    let numbers = store::copied(pairs);
+    let numbers = table::copied(pairs);
     let count = pairs.len();
     tidy_under(&numbers[..count], seg, out)
 }

@@ -6,7 +6,7 @@ use Prim.Native.Nat.{ℕ}
 use denote.Ref.{RefT, now}
 use Rattle.segment.specs.declared.step.Step.{Step}
 use Rattle.segment.specs.Walk.{nextPlace, stepAnswer, stepOf}
-use Rattle.segment.proofs.Settled.{step-settled}
+use Rattle.segment.proofs.StepSettled.{step-settled}
 use Rattle.walk.specs.declared.Walker.{Walker}
 
 -- what `next` promises of a walker under a table: of the answer, and of the walker after it

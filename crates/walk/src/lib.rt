@@ -1,4 +1,4 @@
-// The walk: a segment's records, handed out one at a time. A walker is a thin struct over the steps of `crates/steps`.
+// The walk: a segment's records, handed out one at a time. A walker is a thin struct over the steps of `crates/walk_step`.
 ghost use mathlib.Core.Path.{_≡_};
 ghost use Rattle.segment.specs.Walk.{nextPlace, stepAnswer, stepOf};
 use segment::step::Step;
@@ -22,7 +22,7 @@ pub fn next<'s, 'a, 't>(w: &'s mut Walker<'a>, pairs: &'t [u64]) -> Step
         × (now (w .exit) .segment ≡ now (w .entry) .segment)
         × (now (w .exit) .at ≡ nextPlace r (now (w .entry) .at)) ⌝ }
 {
-    let t = steps::turn_at(pairs, w.segment, w.at);
+    let t = walk_step::turn_at(pairs, w.segment, w.at);
     w.at = t.at;
     t.step
 }

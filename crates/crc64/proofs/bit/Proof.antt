@@ -1,6 +1,6 @@
 -- `crc64::bit` meets its contract: the two ways of the register's lowest bit.
 use mathlib.Core.Path.{sym}
-use Rattle.crc64.proofs.Laws.{step-odd, step-even}
+use Rattle.crc64.proofs.CrcLaws.{step-odd, step-even}
 use Rattle.crc64.proofs.bit.Statement.{statement}
 use Rattle.crc64.proofs.bit.Tie as tie
 

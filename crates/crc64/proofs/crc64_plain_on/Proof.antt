@@ -4,7 +4,7 @@ use Prim.Native.Nat.{_-_}
 use native.Mathlib.Omega.{arith}
 use borrow.Author.Needs.{needs}
 use lib.ListN.{length}
-use Rattle.crc64.proofs.Laws.{Reached, at-start, one-more, at-end}
+use Rattle.crc64.proofs.CrcLaws.{Reached, at-start, one-more, at-end}
 use Rattle.crc64.proofs.crc64_plain_on.Statement.{statement}
 use Rattle.crc64.proofs.crc64_plain_on.Tie as tie
 

@@ -5,7 +5,7 @@ use lib.Bits.{bitXor}
 use native.Mathlib.Omega.{arith}
 use borrow.Author.Needs.{needs}
 use Rattle.crc64.specs.Crc.{steps, byte}
-use Rattle.crc64.proofs.Laws.{steps-more}
+use Rattle.crc64.proofs.CrcLaws.{steps-more}
 use Rattle.crc64.proofs.eat.Statement.{statement}
 use Rattle.crc64.proofs.eat.Tie as tie
 

@@ -8,10 +8,10 @@ use lib.ListN.{length}
 use lib.Seq.{length-take-le}
 use Rattle.segment.specs.Format.{v3}
 use Rattle.segment.specs.Meaning.{Meaning, meaningOf}
-use Rattle.digits.proofs.Laws.{stop-within}
-use Rattle.places.specs.declared.Place.{Place}
-use Rattle.places.specs.Pieces.{isDone, longestLine, piecesFrom, filled}
-use Rattle.places.proofs.Pieces.{filled-on}
+use Rattle.list_digits.proofs.TextLaws.{stop-within}
+use Rattle.list_place.specs.declared.Place.{Place}
+use Rattle.list_place.specs.Pieces.{isDone, longestLine, piecesFrom, filled}
+use Rattle.list_place.proofs.Pieces.{filled-on}
 use Rattle.listing.proofs.write_listing.Statement.{statement}
 use Rattle.listing.proofs.write_listing.Tie as tie
 

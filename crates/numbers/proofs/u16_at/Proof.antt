@@ -2,7 +2,7 @@
 use borrow.Author.Needs.{needs}
 use native.Mathlib.Omega.{arith}
 use mathlib.Core.Path.{sym, _∙_}
-use Rattle.numbers.proofs.Laws.{read-halves, numAt-one}
+use Rattle.numbers.proofs.NumberLaws.{read-halves, numAt-one}
 use Rattle.numbers.proofs.u16_at.Statement.{statement}
 use Rattle.numbers.proofs.u16_at.Tie as tie
 

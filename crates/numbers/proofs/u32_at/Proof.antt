@@ -1,7 +1,7 @@
 -- `numbers::u32_at` meets its contract: two halves of 2 bytes each.
 use borrow.Author.Needs.{needs}
 use native.Mathlib.Omega.{arith}
-use Rattle.numbers.proofs.Laws.{read-halves}
+use Rattle.numbers.proofs.NumberLaws.{read-halves}
 use Rattle.numbers.proofs.u32_at.Statement.{statement}
 use Rattle.numbers.proofs.u32_at.Tie as tie
 

@@ -1,7 +1,7 @@
 -- `numbers::u64_at` meets its contract: two halves of 4 bytes each.
 use borrow.Author.Needs.{needs}
 use native.Mathlib.Omega.{arith}
-use Rattle.numbers.proofs.Laws.{read-halves}
+use Rattle.numbers.proofs.NumberLaws.{read-halves}
 use Rattle.numbers.proofs.u64_at.Statement.{statement}
 use Rattle.numbers.proofs.u64_at.Tie as tie
 

@@ -2,7 +2,7 @@
 use borrow.Author.Needs.{needs}
 use mathlib.Core.Path.{sym}
 use native.Mathlib.Omega.{arith}
-use Rattle.numbers.proofs.Laws.{numAt-one}
+use Rattle.numbers.proofs.NumberLaws.{numAt-one}
 use Rattle.numbers.proofs.u8_at.Statement.{statement}
 use Rattle.numbers.proofs.u8_at.Tie as tie
 

@@ -3,10 +3,10 @@ use mathlib.Core.Path.{_≡_, ap, _∙_}
 use mathlib.Core.Bool.{true}
 use borrow.Author.Needs.{needs}
 use native.Mathlib.Omega.{arith}
-use Rattle.rules.proofs.Order.{was-true, was-false}
-use Rattle.store.specs.Table.{goodTable}
-use Rattle.store.proofs.Pairs.{sized, in-front, front-is, front-long}
-use Rattle.tidy.proofs.Reading.{table-bad, table-good}
+use Rattle.lists.proofs.Tests.{was-true, was-false}
+use Rattle.table.specs.Table.{goodTable}
+use Rattle.table.proofs.Pairs.{sized, in-front, front-is, front-long}
+use Rattle.tidy.proofs.TidyRead.{table-bad, table-good}
 use Rattle.tidy.proofs.tidy.Statement.{statement}
 use Rattle.tidy.proofs.tidy.Tie as tie
 

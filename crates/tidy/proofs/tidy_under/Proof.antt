@@ -5,11 +5,11 @@ use native.Mathlib.Omega.{arith}
 use borrow.Author.Needs.{needs}
 use lib.ListN.{length}
 use Rattle.numbers.specs.Numbers.{Bytes}
-use Rattle.rules.specs.declared.Verdict.the-variants.{Accepted}
+use Rattle.answer.specs.declared.Verdict.the-variants.{Accepted}
 use Rattle.segment.specs.Format.{v3}
 use Rattle.segment.specs.Check.{segmentVerdict}
-use Rattle.arrange.proofs.Left.{left-refused, left-written}
-use Rattle.tidy.proofs.Reading.{long, bloom-within, read-lines, few, read-form}
+use Rattle.put_tidy.proofs.Left.{left-refused, left-written}
+use Rattle.tidy.proofs.TidyRead.{long, bloom-within, read-lines, few, read-form}
 use Rattle.tidy.proofs.tidy_under.Statement.{statement}
 use Rattle.tidy.proofs.tidy_under.Tie as tie
 

@@ -7,18 +7,18 @@ use denote.Enum.Laws as EL
 use denote.Struct.Laws as LL
 use Rattle.segment.proofs.step.Step as S
 use Rattle.segment.proofs.step.Step.Laws as S′
-use Rattle.steps.specs.Steps.{turnOf}
+use Rattle.walk_step.specs.Steps.{turnOf}
 use Rattle.walk.specs.declared.Walker.{Walker}
-use Rattle.steps.specs.declared.Turn.{Turn}
-use Rattle.steps.proofs.Stepping.{said, placed}
+use Rattle.walk_step.specs.declared.Turn.{Turn}
+use Rattle.walk_step.proofs.Stepping.{said, placed}
 use Rattle.walk.proofs.Walker as T
 use Rattle.walk.proofs.Walker.Laws as T′
-use Rattle.steps.proofs.Turn as U
-use Rattle.steps.proofs.Turn.Laws as U′
-use Rattle.steps.proofs.turn_at as turn
-use Rattle.steps.proofs.turn_at.Symbol as turn-def
-use Rattle.steps.proofs.turn_at.Symbol.{name as #steps·turn-at}
-use Rattle.steps.proofs.turn_at.Met as turn-thm
+use Rattle.walk_step.proofs.Turn as U
+use Rattle.walk_step.proofs.Turn.Laws as U′
+use Rattle.walk_step.proofs.turn_at as turn
+use Rattle.walk_step.proofs.turn_at.Symbol as turn-def
+use Rattle.walk_step.proofs.turn_at.Symbol.{name as #walk-step·turn-at}
+use Rattle.walk_step.proofs.turn_at.Met as turn-thm
 use Rattle.walk.proofs.next.Key.{name as #walk·next}
 use Rattle.walk.proofs.next as f
 use Rattle.walk.proofs.next.Statement as stated
@@ -137,7 +137,7 @@ module _ {M : Type 1} (𝓤 : URA M) (H : Heap 𝓤) (A : Atoms 𝓤) (W : Given
         feqI ! (List Val) (vptr b o ∷ []) (vptr b o ∷ []) refl $ fjoin3 ! $ nothing ! $ move ! (2 ∷ 0 ∷ []) $ fjoin ! $ move ! (1 ∷ 0 ∷ []) $ fjoin ! $ frame ! $
         owned ! S.the-row (Is S.the-row) (EL.makes S.the-type S′.the-plain 𝓤 H A) (r .step) _ is-step $ done !
 
-  module _ (C : Calls 𝓤 H) (Λ : Loops 𝓤 H) (fm : FmC 𝓤 H (W .laws) C) (known : Triple 𝓤 (C #steps·turn-at) (TurnAt 𝓤 H A at-mem run)) where
+  module _ (C : Calls 𝓤 H) (Λ : Loops 𝓤 H) (fm : FmC 𝓤 H (W .laws) C) (known : Triple 𝓤 (C #walk-step·turn-at) (TurnAt 𝓤 H A at-mem run)) where
     walk : Is (ShrSlice (named 2) κ″ u64) ps (v ∷ []) → ent 𝓤 (onEntry 𝓤 H A f.signature (κ, (κ′, (κ″, tt))) (q, (q′, (q″, tt))) x at) (WpFn 𝓤 H C Λ code.function (vptr b o ∷ v ∷ []) Post)
     walk isP =
         qed W ((‵ (flft κ q) ⊛ ‵ (flft κ′ q′) ⊛ ‵ (flft κ″ q″) ⊛ ‵ ftrue) ∷ ‵ (owns (MutRef (named 0) κ (B κ′) ∷ ShrSlice (named 2) κ″ u64 ∷ []) x at) ∷ []) ∵
@@ -172,7 +172,7 @@ module _ {M : Type 1} (𝓤 : URA M) (H : Heap 𝓤) (A : Atoms 𝓤) (W : Given
         wt : Is (B κ′) h (T′.lowered h ∷ []) → Holds (hasTy (T′.mir (named 1)) (T′.lowered h)) × WT (T′.lowered h)
         wt was = LL.lawful D L 𝓤 H A W .typed h _ was .0
 
-module _ {M : Type 1} (𝓤 : URA M) (H : Heap 𝓤) (A : Atoms 𝓤) (W : Given 𝓤 H A) (mem : Memory → SProp 𝓤) (run : Routine → Fun 𝓤) (𝓣 : Tables 𝓤 H) (known : Triple 𝓤 (𝓣 .C #steps·turn-at) (TurnAt 𝓤 H A mem run)) where
+module _ {M : Type 1} (𝓤 : URA M) (H : Heap 𝓤) (A : Atoms 𝓤) (W : Given 𝓤 H A) (mem : Memory → SProp 𝓤) (run : Routine → Fun 𝓤) (𝓣 : Tables 𝓤 H) (known : Triple 𝓤 (𝓣 .C #walk-step·turn-at) (TurnAt 𝓤 H A mem run)) where
   f-walks : Walks 𝓤 H A f.ended stayed (WpFn 𝓤 H (𝓣 .C) (𝓣 .Λ) code.function) (f.clauses 𝓤 H A mem run)
   f-walks = walked 𝓤 H A f.ended stayed (f.clauses 𝓤 H A mem run) (WpFn 𝓤 H (𝓣 .C) (𝓣 .Λ) code.function) (λ κs. (ptr-vals, (slice-vals, tt))) (λ κs. (mut-tells (named 0) (κs .0) (B (κs .1 .0)), (shr-slice-tells (named 2) (κs .1 .1 .0) u64, tt)))
       (λ κs qs bounds a _ are. via 𝓤 _ (fst∗ 𝓤 _ (emp 𝓤)) (walk 𝓤 H A W mem run (κs .0) (κs .1 .0) (κs .1 .1 .0) (qs .0) (qs .1 .0) (qs .1 .1 .0) bounds (a .0 .ptr .0) (a .0 .ptr .1) (a .0 .name) (a .0 .now) (a .1 .0) (𝓣 .C) (𝓣 .Λ) (fmOf 𝓤 H (W .laws) 𝓣) known (are .1 .0)))
@@ -186,4 +186,4 @@ next-spec 𝓤 H 𝓜 𝓖 𝓡 =
     entered 𝓤 H (tripleOf 𝓤 H (𝓖 .A) f.signature (f.spec 𝓤 H (𝓖 .A) (𝓜 .mem) (𝓡 .run)))
     (tables 𝓤 H 𝓜 𝓡 code.env .C) (tables 𝓤 H 𝓜 𝓡 code.env .Λ) #walk·next code.function (code.unfolded 𝓤 H 𝓜 𝓡)
     (f-meets 𝓤 H (𝓖 .A) (givenOf 𝓤 H 𝓜 𝓖) (𝓜 .mem) (𝓡 .run) (tablesOf 𝓤 H 𝓜 (tables 𝓤 H 𝓜 𝓡 code.env))
-    (cited 𝓤 H (TurnAt 𝓤 H (𝓖 .A) (𝓜 .mem) (𝓡 .run)) 𝓜 𝓡 code.env #steps·turn-at turn-def.routine code.calls-steps·turn-at (turn-thm.met 𝓤 H 𝓜 𝓖 𝓡)))
+    (cited 𝓤 H (TurnAt 𝓤 H (𝓖 .A) (𝓜 .mem) (𝓡 .run)) 𝓜 𝓡 code.env #walk-step·turn-at turn-def.routine code.calls-steps·turn-at (turn-thm.met 𝓤 H 𝓜 𝓖 𝓡)))

@@ -1,6 +1,6 @@
 -- `asl::calls::asl_check` meets its contract: the table, and what check says under it.
 use borrow.Author.Needs.{needs}
-use Rattle.lent.proofs.Taking.{Copied, copied}
+use Rattle.c_table.proofs.Taking.{Copied, copied}
 use Rattle.asl.proofs.Called.{told-accepted, told-refused}
 use Rattle.asl.proofs.calls.asl_check.Statement.{statement}
 use Rattle.asl.proofs.calls.asl_check.Tie as tie

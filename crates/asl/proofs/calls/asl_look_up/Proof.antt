@@ -1,7 +1,7 @@
 -- `asl::calls::asl_look_up` meets its contract: the table, and what look up says under it.
 use borrow.Author.Needs.{needs}
-use Rattle.lent.proofs.Taking.{Copied, copied}
-use Rattle.boundary.proofs.Replies.{reply-long}
+use Rattle.c_table.proofs.Taking.{Copied, copied}
+use Rattle.c_answer.proofs.Replies.{reply-long}
 use Rattle.asl.proofs.Called.{looked-up}
 use Rattle.asl.proofs.calls.asl_look_up.Statement.{statement}
 use Rattle.asl.proofs.calls.asl_look_up.Tie as tie

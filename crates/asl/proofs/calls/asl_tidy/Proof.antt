@@ -1,6 +1,6 @@
 -- `asl::calls::asl_tidy` meets its contract: the table, and what tidy says under it.
 use borrow.Author.Needs.{needs}
-use Rattle.lent.proofs.Taking.{Copied, copied}
+use Rattle.c_table.proofs.Taking.{Copied, copied}
 use Rattle.asl.proofs.Called.{tidied}
 use Rattle.asl.proofs.calls.asl_tidy.Statement.{statement}
 use Rattle.asl.proofs.calls.asl_tidy.Tie as tie

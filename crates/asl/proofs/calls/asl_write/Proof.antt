@@ -1,6 +1,6 @@
 -- `asl::calls::asl_write` meets its contract: the table, and what write says under it.
 use borrow.Author.Needs.{needs}
-use Rattle.lent.proofs.Taking.{Copied, copied}
+use Rattle.c_table.proofs.Taking.{Copied, copied}
 use Rattle.asl.proofs.Called.{written}
 use Rattle.asl.proofs.calls.asl_write.Statement.{statement}
 use Rattle.asl.proofs.calls.asl_write.Tie as tie

@@ -1,5 +1,5 @@
 -- `segment::header::bloom_place` meets its contract: nowhere, or behind the header.
-use Rattle.rules.proofs.Order.{tests}
+use Rattle.lists.proofs.Tests.{tests}
 use Rattle.segment.proofs.header.bloom_place.Statement.{statement}
 use Rattle.segment.proofs.header.bloom_place.Tie as tie
 

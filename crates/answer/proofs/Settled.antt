@@ -1,0 +1,143 @@
+-- An answer's numbers settle it: two refusals with one number and one place are equal, and so are two answers of a service
+-- that say the same in numbers. Each by a function that takes the numbers back.
+-- Assumes nothing.
+use Prim.Native.Nat.{ℕ, zero, suc}
+use mathlib.Core.Path.{_≡_, refl, sym, ap, ap₂, _∙_}
+use mathlib.Core.Bool.{false, cond}
+use mathlib.Core.List.{List, [], _∷_}
+use lib.Dec.{eqb}
+use lib.ListN.{length, getD}
+use Rattle.answer.specs.declared.Refusal.{Refusal}
+use Rattle.answer.specs.declared.Refusal.the-variants.{
+  Size,
+  Magic,
+  Version,
+  Header,
+  Layout,
+  Checksum,
+  Record,
+  Digest,
+  Extents,
+  Total,
+  Visibility,
+  Duplicate,
+  Room,
+  Table,
+  List as ListEnd,
+  Large,
+  Key,
+}
+use Rattle.answer.specs.declared.Verdict.{Verdict}
+use Rattle.answer.specs.declared.Verdict.the-variants.{Accepted, Refused}
+use Rattle.answer.specs.declared.Source.{Source}
+use Rattle.answer.specs.declared.Source.the-variants.{None, Domain}
+use Rattle.answer.specs.declared.Found.{Found}
+use Rattle.answer.specs.declared.Found.the-variants.{Absent, Gone, Present, Refused as FoundRefused}
+use Rattle.answer.specs.declared.Written.{Written}
+use Rattle.answer.specs.declared.Written.the-variants.{Done, Refused as WrittenRefused}
+use Rattle.answer.specs.Answers.{numberOf, placeOf, Answer, refused, checkAnswer, foundAnswer, writtenAnswer}
+
+-- the refusals by number, from 0, at which none stands
+byNumber : ℕ → List Refusal
+byNumber p =
+    Size ∷ Size ∷ Magic ∷ Version ∷ Header ∷ Layout ∷ Checksum ∷ Record p ∷ Digest p ∷ Extents p ∷ Total p ∷ Visibility ∷ Duplicate p ∷ Room
+    ∷ Table ∷ ListEnd p ∷ Large ∷ Key ∷ []
+
+pub refusalOf : ℕ → ℕ → Refusal
+refusalOf n p = getD (byNumber p) n Size
+
+refusal-back : (r : Refusal) → refusalOf (numberOf r) (placeOf r) ≡ r
+unfolding refusalOf byNumber
+refusal-back Size = refl
+refusal-back Magic = refl
+refusal-back Version = refl
+refusal-back Header = refl
+refusal-back Layout = refl
+refusal-back Checksum = refl
+refusal-back (Record k) = refl
+refusal-back (Digest k) = refl
+refusal-back (Extents k) = refl
+refusal-back (Total k) = refl
+refusal-back Visibility = refl
+refusal-back (Duplicate k) = refl
+refusal-back Room = refl
+refusal-back Table = refl
+refusal-back (ListEnd k) = refl
+refusal-back Large = refl
+refusal-back Key = refl
+
+pub refusal-settled : (q r : Refusal) → numberOf q ≡ numberOf r → placeOf q ≡ placeOf r → q ≡ r
+refusal-settled q r e f = sym (refusal-back q) ∙ ap₂ refusalOf e f ∙ refusal-back r
+
+-- no refusal has the number of an answer
+not-answered : (r : Refusal) → eqb (numberOf r) 0 ≡ false
+not-answered Size = refl
+not-answered Magic = refl
+not-answered Version = refl
+not-answered Header = refl
+not-answered Layout = refl
+not-answered Checksum = refl
+not-answered (Record k) = refl
+not-answered (Digest k) = refl
+not-answered (Extents k) = refl
+not-answered (Total k) = refl
+not-answered Visibility = refl
+not-answered (Duplicate k) = refl
+not-answered Room = refl
+not-answered Table = refl
+not-answered (ListEnd k) = refl
+not-answered Large = refl
+not-answered Key = refl
+
+-- a service's answer from its numbers: where the number is 0, what the values make of it
+unfoldable pub taken : {A : Type 0} → (Refusal → A) → (List ℕ → A) → Answer → A
+taken refuse make a = cond (eqb (a .number) 0) (make (a .values)) (refuse (refusalOf (a .number) (a .place)))
+
+pub taken-refused : {A : Type 0} (refuse : Refusal → A) (make : List ℕ → A) (r : Refusal) → taken refuse make (refused r) ≡ refuse r
+unfolding taken
+taken-refused refuse make r = rw (not-answered r) (ap refuse (refusal-back r))
+
+check-back : (v : Verdict) → taken Refused (λ vs. Accepted) (checkAnswer v) ≡ v
+unfolding taken
+check-back Accepted = refl
+check-back (Refused r) = taken-refused Refused (λ vs. Accepted) r
+
+pub check-settled : (v w : Verdict) → checkAnswer v ≡ checkAnswer w → v ≡ w
+check-settled v w e = sym (check-back v) ∙ ap (taken Refused (λ vs. Accepted)) e ∙ check-back w
+
+sourceFrom : ℕ → ℕ → Source
+sourceFrom zero d = None
+sourceFrom (suc i) d = Domain d
+
+-- the answers of look up by the count of their values: none, four or seven
+foundFrom : List ℕ → Found
+foundFrom vs =
+    let v = getD vs 0 0 in
+    let d = getD vs 1 0 in
+    let s = sourceFrom (getD vs 2 0) (getD vs 3 0) in
+    getD
+    (Absent ∷ Absent ∷ Absent ∷ Absent ∷ Gone v d s ∷ Absent ∷ Absent ∷ Present v d s (getD vs 4 0) (getD vs 5 0) (getD vs 6 0) ∷ [])
+    (length vs) Absent
+
+found-back : (f : Found) → taken FoundRefused foundFrom (foundAnswer f) ≡ f
+unfolding taken foundFrom sourceFrom
+found-back Absent = refl
+found-back (Gone v d None) = refl
+found-back (Gone v d (Domain s)) = refl
+found-back (Present v d None t a n) = refl
+found-back (Present v d (Domain s) t a n) = refl
+found-back (FoundRefused r) = taken-refused FoundRefused foundFrom r
+
+pub found-settled : (f g : Found) → foundAnswer f ≡ foundAnswer g → f ≡ g
+found-settled f g e = sym (found-back f) ∙ ap (taken FoundRefused foundFrom) e ∙ found-back g
+
+writtenFrom : List ℕ → Written
+writtenFrom vs = Done (getD vs 0 0)
+
+written-back : (w : Written) → taken WrittenRefused writtenFrom (writtenAnswer w) ≡ w
+unfolding taken writtenFrom
+written-back (Done n) = refl
+written-back (WrittenRefused r) = taken-refused WrittenRefused writtenFrom r
+
+pub written-settled : (v w : Written) → writtenAnswer v ≡ writtenAnswer w → v ≡ w
+written-settled v w e = sym (written-back v) ∙ ap (taken WrittenRefused writtenFrom) e ∙ written-back w

@@ -1,0 +1,5 @@
+pub mod OneRefusal
+pub mod TablesHeader
+pub mod TablesRecord
+pub mod TablesVisibility
+pub mod Book

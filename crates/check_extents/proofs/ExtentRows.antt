@@ -1,0 +1,212 @@
+-- The rows of a record's tables, 9 and 10, and the sum over its extents. Each premise is as the code's test or call leaves it.
+-- Assumes nothing.
+use Prim.Native.Nat.{ℕ, suc, _+_, _-_, _*_, _%_, _≤_, _<_}
+use mathlib.Core.Path.{_≡_, _∙_}
+use mathlib.Core.Bool.{true, false}
+use mathlib.Core.List.{List, _∷_}
+use native.Mathlib.Omega.{arith}
+use borrow.Author.Tests.{ne-eqb, leb-true}
+use lib.Dec.{eqb, leb}
+use Rattle.numbers.specs.Numbers.{numAt}
+use Rattle.answer.specs.declared.Refusal.{Refusal}
+use Rattle.answer.specs.declared.Refusal.the-variants.{Extents, Total}
+use Rattle.answer.specs.declared.Verdict.{Verdict}
+use Rattle.answer.specs.declared.Verdict.the-variants.{Accepted, Refused}
+use Rattle.lists.proofs.Tests.{tests, by-test}
+use Rattle.answer.proofs.Order.{held, must-accepted}
+use Rattle.segment.specs.declared.header.Header.{Header}
+use Rattle.segment.specs.declared.record.Record.{Record}
+use Rattle.segment.specs.declared.extent.Extent.{Extent}
+use Rattle.segment.specs.Format.{v3, extentsOffset, extentCount, extentOf, extentsAt, extentsIn}
+use Rattle.segment.specs.Check.{allFit, sumLengths, goneExtents, liveExtents, extentsVerdict, liveTotal, totalVerdict}
+use Rattle.check_extents.specs.declared.Sum.the-variants.{Of, Past}
+use Rattle.check_extents.specs.ExtentRules.{summed, slicesRules}
+
+-- ---- 9
+
+module _ (h : Header) (r : Record) (k : ℕ) where
+  module _ (g : r .flags ≡ 1) where
+    pub gone-placed : (r .«extents_offset» .0 ≡ 0 → ⊥) → Refused (Extents k) ≡ extentsVerdict h r k
+    unfolding extentsVerdict goneExtents
+    gone-placed a = simp tests
+
+    module _ (a : r .«extents_offset» .0 ≡ 0) where
+      pub gone-some : (r .«extent_count» ≡ 0 → ⊥) → Refused (Extents k) ≡ extentsVerdict h r k
+      unfolding extentsVerdict goneExtents
+      gone-some b = simp tests
+
+      pub gone-accepted : r .«extent_count» ≡ 0 → Accepted ≡ extentsVerdict h r k
+      unfolding extentsVerdict goneExtents
+      gone-accepted b = simp tests
+
+  module _ (g : r .flags ≡ 1 → ⊥) where
+    pub live-none : r .«extent_count» < 1 → Refused (Extents k) ≡ extentsVerdict h r k
+    unfolding extentsVerdict liveExtents
+    live-none a = simp tests
+
+    module _ (a : 1 ≤ r .«extent_count») where
+      pub live-before : r .«extents_offset» .0 < extentsOffset h → Refused (Extents k) ≡ extentsVerdict h r k
+      unfolding extentsVerdict liveExtents
+      live-before b = simp tests
+
+      module _ (b : extentsOffset h ≤ r .«extents_offset» .0) where
+        pub live-between : ((r .«extents_offset» .0 - extentsOffset h) % 16 ≡ 0 → ⊥) → Refused (Extents k) ≡ extentsVerdict h r k
+        unfolding extentsVerdict liveExtents
+        live-between c = simp tests
+
+        module _ (c : (r .«extents_offset» .0 - extentsOffset h) % 16 ≡ 0) where
+          pub live-after : extentsOffset h + 16 * extentCount h < r .«extents_offset» .0 → Refused (Extents k) ≡ extentsVerdict h r k
+          unfolding extentsVerdict liveExtents
+          live-after d =
+              let past : extentsOffset h + 16 * extentCount h < r .«extents_offset» .0 + 16 * r .«extent_count» = omega arith in
+              simp tests
+
+          module _ (d : r .«extents_offset» .0 ≤ extentsOffset h + 16 * extentCount h) where
+            pub live-past : extentsOffset h + 16 * extentCount h - r .«extents_offset» .0 < 16 * r .«extent_count»
+                → Refused (Extents k) ≡ extentsVerdict h r k
+            unfolding extentsVerdict liveExtents
+            live-past e =
+                let past : extentsOffset h + 16 * extentCount h < r .«extents_offset» .0 + 16 * r .«extent_count» = omega arith in
+                simp tests
+
+            pub live-accepted : 16 * r .«extent_count» ≤ extentsOffset h + 16 * extentCount h - r .«extents_offset» .0
+                → Accepted ≡ extentsVerdict h r k
+            unfolding extentsVerdict liveExtents
+            live-accepted e =
+                let within : r .«extents_offset» .0 + 16 * r .«extent_count» ≤ extentsOffset h + 16 * extentCount h = omega arith in
+                simp tests
+
+pub ruleset extents-rows = (
+  gone-placed,
+  gone-some,
+  gone-accepted,
+  live-none,
+  live-before,
+  live-between,
+  live-after,
+  live-past,
+  live-accepted,
+)
+
+-- ---- the sum over extents
+
+-- a loop over the extents has come to i with the sum so far: what is left of them decides
+pub record Summing (s : List ℕ) (at count i sum : ℕ) : Type 0 where
+  pub within : i ≤ count
+  pub fits : allFit (extentsAt s at count) ≡ allFit (extentsAt s (at + 16 * i) (count - i))
+  pub sums : sumLengths (extentsAt s at count) ≡ sum + sumLengths (extentsAt s (at + 16 * i) (count - i))
+  pub small : sum ≤ 4294967295 * i
+
+pub sum-start : (s : List ℕ) (at count : ℕ) → Summing s at count 0 0
+sum-start s at count =
+    let e : at + 16 * 0 ≡ at = omega arith in
+    let f : count - 0 ≡ count = omega arith in
+    record { within = omega arith; fits = rw (e, f); sums = rw (e, f) (omega arith); small = omega arith }
+
+next-extent : (s : List ℕ) (at count i : ℕ) → i < count
+    → extentsAt s (at + 16 * i) (count - i) ≡ extentOf s (at + 16 * i) ∷ extentsAt s (at + 16 * (i + 1)) (count - (i + 1))
+unfolding extentsAt
+next-extent s at count i h =
+    let e : count - i ≡ suc (count - (i + 1)) = omega arith in
+    let f : at + 16 * (i + 1) ≡ at + 16 * i + 16 = omega arith in
+    rw (e, f)
+
+module _ (s : List ℕ) (at count i sum offset size : ℕ) (v : Summing s at count i sum) (h : i < count) (p : offset ≡ numAt 4 s (at + 16 * i + 8))
+    (q : size ≡ numAt 4 s (at + 16 * i + 12)) where
+  rest : List Extent
+  rest = extentsAt s (at + 16 * (i + 1)) (count - (i + 1))
+
+  pub sum-past : 4294967296 < offset + size → Past ≡ summed (extentsAt s at count)
+  unfolding summed allFit extentOf
+  sum-past l = rw (v .fits, next-extent s at count i h, ← p, ← q) (simp tests)
+
+  pub sum-more : offset + size ≤ 4294967296 → size ≤ 4294967295 → Summing s at count (i + 1) (sum + size)
+  unfolding rest allFit sumLengths extentOf
+  sum-more l m = record {
+    within = omega arith;
+    fits = v .fits ∙ rw (next-extent s at count i h, ← p, ← q) (simp tests);
+    sums =
+        let e : sumLengths (extentsAt s (at + 16 * i) (count - i)) ≡ size + sumLengths rest = rw (next-extent s at count i h, ← q) in
+        v .sums ∙ rw e (omega arith);
+    small = omega (arith, v .small);
+  }
+
+pub sum-done : (s : List ℕ) (at count i sum : ℕ) → Summing s at count i sum → count ≤ i → Of sum ≡ summed (extentsAt s at count)
+unfolding summed allFit sumLengths extentsAt
+sum-done s at count i sum v h =
+    let e : count - i ≡ 0 = omega arith in
+    let f : allFit (extentsAt s at count) ≡ true = v .fits ∙ rw e in
+    let g : sumLengths (extentsAt s at count) ≡ sum = v .sums ∙ rw e (omega arith) in
+    rw (f, g)
+
+-- ---- 10
+
+not-fit : (es : List Extent) → Past ≡ summed es → allFit es ≡ false
+unfolding summed
+not-fit es e = by-test (allFit es) (λ f. let q : Past ≡ Of (sumLengths es) = e ∙ rw f in cc) (λ f. f)
+
+all-fit : (es : List Extent) (sum : ℕ) → Of sum ≡ summed es → allFit es ≡ true
+unfolding summed
+all-fit es sum e = by-test (allFit es) (λ f. f) (λ f. let q : Of sum ≡ Past = e ∙ rw f in cc)
+
+sum-is : (es : List Extent) (sum : ℕ) → Of sum ≡ summed es → sumLengths es ≡ sum
+unfolding summed
+sum-is es sum e =
+    let q : Of sum ≡ Of (sumLengths es) = e ∙ rw (all-fit es sum e) in
+    cc
+
+module _ (s : List ℕ) (r : Record) (k : ℕ) where
+  module _ (g : r .flags ≡ 1) where
+    pub gone-total : (r .«total_length» ≡ 0 → ⊥) → Refused (Total k) ≡ totalVerdict v3 s r k
+    unfolding totalVerdict
+    gone-total a = simp tests
+
+    pub gone-none : r .«total_length» ≡ 0 → Accepted ≡ totalVerdict v3 s r k
+    unfolding totalVerdict
+    gone-none a = simp tests
+
+  module _ (g : r .flags ≡ 1 → ⊥) where
+    pub total-past : Past ≡ summed (extentsIn s r) → Refused (Total k) ≡ totalVerdict v3 s r k
+    unfolding totalVerdict liveTotal
+    total-past e = rw (not-fit (extentsIn s r) e) (simp tests)
+
+    module _ (sum : ℕ) (e : Of sum ≡ summed (extentsIn s r)) where
+      pub total-great : 4294967295 < sum → Refused (Total k) ≡ totalVerdict v3 s r k
+      unfolding totalVerdict liveTotal
+      total-great a = rw (all-fit (extentsIn s r) sum e, sum-is (extentsIn s r) sum e) (simp tests)
+
+      pub total-differs : sum ≤ 4294967295 → (sum ≡ r .«total_length» → ⊥) → Refused (Total k) ≡ totalVerdict v3 s r k
+      unfolding totalVerdict liveTotal
+      total-differs a b = rw (all-fit (extentsIn s r) sum e, sum-is (extentsIn s r) sum e) (simp tests)
+
+      pub total-accepted : sum ≤ 4294967295 → sum ≡ r .«total_length» → Accepted ≡ totalVerdict v3 s r k
+      unfolding totalVerdict liveTotal
+      total-accepted a b = rw (all-fit (extentsIn s r) sum e, sum-is (extentsIn s r) sum e) (simp tests)
+
+-- the extents of a record that is not gone, and has passed 9, lie in the section
+live-end : (h : Header) (r : Record) (k : ℕ) → liveExtents h r k ≡ Accepted
+    → r .«extents_offset» .0 + 16 * r .«extent_count» ≤ extentsOffset h + 16 * extentCount h
+unfolding liveExtents
+live-end h r k e =
+    let at = r .«extents_offset» .0 in
+    let end = extentsOffset h + 16 * extentCount h in
+    let a = held (leb 1 (r .«extent_count»)) (Extents k) _ e in
+    let b = held (leb (extentsOffset h) at) (Extents k) _ (a .1) in
+    let c = held (eqb ((at - extentsOffset h) % 16) 0) (Extents k) _ (b .1) in
+    leb-true (at + 16 * r .«extent_count») end (must-accepted (leb (at + 16 * r .«extent_count») end) (Extents k) .0 (c .1))
+
+pub live-inside : (h : Header) (r : Record) (k : ℕ) → (r .flags ≡ 1 → ⊥) → extentsVerdict h r k ≡ Accepted
+    → r .«extents_offset» .0 + 16 * r .«extent_count» ≤ extentsOffset h + 16 * extentCount h
+unfolding extentsVerdict
+live-inside h r k g e = live-end h r k (rw (ne-eqb (r .flags) 1 g) at e)
+
+-- ---- 9, and then 10
+
+module _ (s : List ℕ) (h : Header) (r : Record) (k : ℕ) where
+  pub extents-stop : (x : Refusal) → extentsVerdict h r k ≡ Refused x → Refused x ≡ slicesRules s h r k
+  unfolding slicesRules
+  extents-stop x e = rw e
+
+  pub extents-pass : {v : Verdict} → extentsVerdict h r k ≡ Accepted → v ≡ totalVerdict v3 s r k → v ≡ slicesRules s h r k
+  unfolding slicesRules
+  extents-pass e f = rw e f

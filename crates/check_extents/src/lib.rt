@@ -1,0 +1,116 @@
+// The rules of a record's extents and total: 9 and 10.
+ghost use mathlib.Core.Path.{_≡_};
+ghost use Prim.Native.Nat.{_+_, _*_, _<_, _≤_};
+ghost use lib.ListN.{length};
+ghost use Rattle.answer.specs.declared.Verdict.the-variants.{Accepted};
+ghost use Rattle.segment.specs.Format.{v3, extentsAt};
+ghost use Rattle.segment.specs.Check.{extentsVerdict, totalVerdict};
+ghost use Rattle.check_header.specs.HeaderRules.{Laid};
+ghost use Rattle.check_extents.specs.ExtentRules.{summed, slicesRules};
+use field_record::extent;
+use answer::Refusal;
+use answer::Verdict;
+use segment::extent::Extent;
+use segment::header::Header;
+use segment::record::Record;
+
+// The lengths of some extents added up, or that one of them passes the end of its block.
+pub enum Sum {
+    Of(u64),
+    Past,
+}
+
+fn sum_extents(seg: &[u8], at: usize, count: usize) -> Sum
+    requires { ⌜ (at + 16 * count ≤ length (now seg)) × (count < 4294967296) ⌝ }
+    ensures { λ r. ⌜ r ≡ summed (extentsAt (now (seg .entry)) at count) ⌝ }
+{
+    let mut sum: u64 = 0;
+    let mut i = 0;
+    while i < count {
+        let place = at + Extent::SIZE * i;
+        let offset = extent::offset(seg, place).0 as u64;
+        let size = extent::length(seg, place) as u64;
+        if 4294967296 < offset + size {
+            return Sum::Past;
+        }
+        sum += size;
+        i += 1;
+    }
+    Sum::Of(sum)
+}
+
+fn check_extents(seg: &[u8], h: Header, r: Record, k: usize) -> Verdict
+    requires { ⌜ Laid (now seg) h ⌝ }
+    ensures { λ v. ⌜ v ≡ extentsVerdict h r k ⌝ }
+{
+    let place = r.extents_offset.0;
+    let count = r.extent_count as u64;
+    if r.flags == 1 {
+        if place != 0 {
+            return Verdict::Refused(Refusal::Extents(k as u64));
+        }
+        if count != 0 {
+            return Verdict::Refused(Refusal::Extents(k as u64));
+        }
+        return Verdict::Accepted;
+    }
+    if count < 1 {
+        return Verdict::Refused(Refusal::Extents(k as u64));
+    }
+    let start = h.extents_offset.0;
+    if place < start {
+        return Verdict::Refused(Refusal::Extents(k as u64));
+    }
+    if (place - start) % Extent::LONG != 0 {
+        return Verdict::Refused(Refusal::Extents(k as u64));
+    }
+    let end = start + Extent::LONG * h.extent_count;
+    if end < place {
+        return Verdict::Refused(Refusal::Extents(k as u64));
+    }
+    if end - place < Extent::LONG * count {
+        return Verdict::Refused(Refusal::Extents(k as u64));
+    }
+    Verdict::Accepted
+}
+
+fn check_total(seg: &[u8], h: Header, r: Record, k: usize) -> Verdict
+    requires { ⌜ Laid (now seg) h ⌝ }
+    requires { ⌜ extentsVerdict h r k ≡ Accepted ⌝ }
+    ensures { λ v. ⌜ v ≡ totalVerdict v3 (now (seg .entry)) r k ⌝ }
+{
+    if r.flags == 1 {
+        if r.total_length != 0 {
+            return Verdict::Refused(Refusal::Total(k as u64));
+        }
+        return Verdict::Accepted;
+    }
+    match sum_extents(seg, r.extents_offset.0 as usize, r.extent_count as usize) {
+        Sum::Past => {
+            return Verdict::Refused(Refusal::Total(k as u64));
+        }
+        Sum::Of(sum) => {
+            if 4294967295 < sum {
+                return Verdict::Refused(Refusal::Total(k as u64));
+            }
+            if sum != r.total_length {
+                return Verdict::Refused(Refusal::Total(k as u64));
+            }
+        }
+    }
+    Verdict::Accepted
+}
+
+// 9 and 10.
+pub fn check_slices(seg: &[u8], h: Header, r: Record, k: usize) -> Verdict
+    requires { ⌜ Laid (now seg) h ⌝ }
+    ensures { λ v. ⌜ v ≡ slicesRules (now (seg .entry)) h r k ⌝ }
+{
+    match check_extents(seg, h, r, k) {
+        Verdict::Refused(x) => {
+            return Verdict::Refused(x);
+        }
+        Verdict::Accepted => {}
+    }
+    check_total(seg, h, r, k)
+}

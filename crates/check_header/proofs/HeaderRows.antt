@@ -1,0 +1,159 @@
+-- The rows of the header's tables: which verdict there is where the rules above a row hold and that row's rule does not. Each premise is as the
+-- code's test or call leaves it.
+-- Assumes nothing.
+use Prim.Native.Nat.{ℕ, _+_, _-_, _*_, _/_, _%_, _≤_, _<_}
+use mathlib.Core.Path.{_≡_, sym, _∙_}
+use mathlib.Core.Bool.{Bool, true, false, not}
+use mathlib.Core.List.{List}
+use native.Mathlib.Omega.{arith}
+use borrow.Author.Tests.{eq-eqb, ne-eqb, eqb-true, eqb-false}
+use lib.Dec.{eqb}
+use lib.ListN.{length, take}
+use Rattle.numbers.specs.Numbers.{numAt}
+use Rattle.crc64.specs.Crc.{crc}
+use Rattle.answer.specs.declared.Refusal.the-variants.{Magic, Version, Header as HeaderWrong, Layout, Checksum}
+use Rattle.answer.specs.declared.Verdict.the-variants.{Accepted, Refused}
+use Rattle.lists.proofs.Tests.{tests, by-test, was-true, was-false}
+use Rattle.segment.specs.declared.header.Header.{Header}
+use Rattle.segment.specs.Format.{v3, recordCount, recordsOffset, bloomOffset, bloomSize, digestsOffset, digestsSize, extentsOffset, extentCount, footerOf}
+use Rattle.segment.specs.Check.{headVerdict, bloomPlace, layoutVerdict, checksumVerdict}
+
+-- ---- 2, 3 and 4
+
+module _ (h : Header) where
+  pub head-magic : (h .magic ≡ 0x3330_5844_494C_5341 → ⊥) → Refused Magic ≡ headVerdict v3 h
+  unfolding headVerdict
+  head-magic m = simp tests
+
+  module _ (m : h .magic ≡ 0x3330_5844_494C_5341) where
+    pub head-version : (h .version ≡ 3 → ⊥) → Refused Version ≡ headVerdict v3 h
+    unfolding headVerdict
+    head-version v = simp tests
+
+    module _ (v : h .version ≡ 3) where
+      pub head-size : (h .«header_size» ≡ 112 → ⊥) → Refused HeaderWrong ≡ headVerdict v3 h
+      unfolding headVerdict
+      head-size z = simp tests
+
+      module _ (z : h .«header_size» ≡ 112) where
+        pub head-federation : (h .federation ≡ 0 → ⊥) → Refused HeaderWrong ≡ headVerdict v3 h
+        unfolding headVerdict
+        head-federation f = simp tests
+
+        module _ (f : h .federation ≡ 0) where
+          pub head-reserved : (h .reserved ≡ 0 → ⊥) → Refused HeaderWrong ≡ headVerdict v3 h
+          unfolding headVerdict
+          head-reserved r = simp tests
+
+          module _ (r : h .reserved ≡ 0) where
+            pub head-flags : (h .flags ≡ 0 → ⊥) → Refused HeaderWrong ≡ headVerdict v3 h
+            unfolding headVerdict
+            head-flags g = simp tests
+
+            module _ (g : h .flags ≡ 0) where
+              pub head-visibility : 1 < h .visibility → Refused HeaderWrong ≡ headVerdict v3 h
+              unfolding headVerdict
+              head-visibility s = simp tests
+
+              pub head-accepted : h .visibility ≤ 1 → Accepted ≡ headVerdict v3 h
+              unfolding headVerdict
+              head-accepted s = simp tests
+
+pub ruleset head-rows = (head-magic, head-version, head-size, head-federation, head-reserved, head-flags, head-visibility, head-accepted)
+
+-- ---- sums over whole numbers
+
+-- two tests of equality that hold together say the same
+same-test : (x y z w : ℕ) → (x ≡ y → z ≡ w) → (z ≡ w → x ≡ y) → eqb x y ≡ eqb z w
+same-test x y z w f g =
+    by-test (eqb x y)
+    (λ e. e ∙ sym (eq-eqb z w (f (eqb-true x y e))))
+    (λ e. e ∙ sym (ne-eqb z w (λ q. eqb-false x y e (g q))))
+
+pub below-part : (whole a b : ℕ) → whole < a → false ≡ eqb whole (a + b)
+below-part whole a b h = sym (ne-eqb whole (a + b) (λ e. omega arith))
+
+pub rest-told : (whole a b : ℕ) → a ≤ whole → eqb (whole - a) b ≡ eqb whole (a + b)
+rest-told whole a b h = same-test (whole - a) b whole (a + b) (λ e. omega arith) (λ e. omega arith)
+
+module _ (n extents count : ℕ) where
+  pub too-short : n < 24 → false ≡ eqb n (extents + 16 * count + 24)
+  too-short h = sym (ne-eqb n (extents + 16 * count + 24) (λ e. omega arith))
+
+  pub no-extents : n - 24 < extents → 24 ≤ n → false ≡ eqb n (extents + 16 * count + 24)
+  no-extents h l = sym (ne-eqb n (extents + 16 * count + 24) (λ e. omega arith))
+
+  pub not-whole : 24 ≤ n → extents ≤ n - 24 → ((n - 24 - extents) % 16 ≡ 0 → ⊥) → false ≡ eqb n (extents + 16 * count + 24)
+  not-whole l m h = sym (ne-eqb n (extents + 16 * count + 24) (λ e. h (omega arith)))
+
+  pub counted : 24 ≤ n → extents ≤ n - 24 → (n - 24 - extents) % 16 ≡ 0 → eqb ((n - 24 - extents) / 16) count ≡ eqb n (extents + 16 * count + 24)
+  counted l m h = same-test ((n - 24 - extents) / 16) count n (extents + 16 * count + 24) (λ e. omega arith) (λ e. omega arith)
+
+-- ---- 5
+
+module _ (h : Header) (n : ℕ) (place : ℕ) (p : place ≡ bloomPlace (bloomSize h)) where
+  pub layout-bloom : (bloomOffset h ≡ place → ⊥) → Refused Layout ≡ layoutVerdict v3 h n
+  unfolding layoutVerdict
+  layout-bloom b = rw (← p) (simp tests)
+
+  module _ (b : bloomOffset h ≡ place) where
+    pub layout-bloom-size : (bloomSize h % 8 ≡ 0 → ⊥) → Refused Layout ≡ layoutVerdict v3 h n
+    unfolding layoutVerdict
+    layout-bloom-size z = rw (← p) (simp tests)
+
+    module _ (z : bloomSize h % 8 ≡ 0) where
+      pub layout-count : 65536 < recordCount h → Refused Layout ≡ layoutVerdict v3 h n
+      unfolding layoutVerdict
+      layout-count c = rw (← p) (simp tests)
+
+      module _ (c : recordCount h ≤ 65536) (t₁ : Bool) (e₁ : t₁ ≡ eqb (recordsOffset h) (112 + bloomSize h)) where
+        pub layout-records : not t₁ ≡ true → Refused Layout ≡ layoutVerdict v3 h n
+        unfolding layoutVerdict
+        layout-records f = rw (← p) (simp (tests, was-false e₁ f))
+
+        module _ (f₁ : not t₁ ≡ false) (t₂ : Bool) (e₂ : t₂ ≡ eqb (digestsOffset h) (recordsOffset h + 48 * recordCount h)) where
+          pub layout-digests : not t₂ ≡ true → Refused Layout ≡ layoutVerdict v3 h n
+          unfolding layoutVerdict
+          layout-digests f = rw (← p) (simp (tests, was-true e₁ f₁, was-false e₂ f))
+
+          module _ (f₂ : not t₂ ≡ false) where
+            pub layout-digests-size : (digestsSize h % 8 ≡ 0 → ⊥) → Refused Layout ≡ layoutVerdict v3 h n
+            unfolding layoutVerdict
+            layout-digests-size d = rw (← p) (simp (tests, was-true e₁ f₁, was-true e₂ f₂))
+
+            module _ (d : digestsSize h % 8 ≡ 0) (t₃ : Bool) (e₃ : t₃ ≡ eqb (extentsOffset h) (digestsOffset h + digestsSize h)) where
+              pub layout-extents : not t₃ ≡ true → Refused Layout ≡ layoutVerdict v3 h n
+              unfolding layoutVerdict
+              layout-extents f = rw (← p) (simp (tests, was-true e₁ f₁, was-true e₂ f₂, was-false e₃ f))
+
+              module _ (f₃ : not t₃ ≡ false) (t₄ : Bool) (e₄ : t₄ ≡ eqb n (extentsOffset h + 16 * extentCount h + 24)) where
+                pub layout-file : not t₄ ≡ true → Refused Layout ≡ layoutVerdict v3 h n
+                unfolding layoutVerdict
+                layout-file f = rw (← p) (simp (tests, was-true e₁ f₁, was-true e₂ f₂, was-true e₃ f₃, was-false e₄ f))
+
+                pub layout-accepted : not t₄ ≡ false → Accepted ≡ layoutVerdict v3 h n
+                unfolding layoutVerdict
+                layout-accepted f = rw (← p) (simp (tests, was-true e₁ f₁, was-true e₂ f₂, was-true e₃ f₃, was-true e₄ f))
+
+pub ruleset layout-rows = (
+  layout-bloom,
+  layout-bloom-size,
+  layout-count,
+  layout-records,
+  layout-digests,
+  layout-digests-size,
+  layout-extents,
+  layout-file,
+  layout-accepted,
+)
+
+-- ---- 6
+
+module _ (s : List ℕ) (stored computed : ℕ) (p : stored ≡ numAt 8 s (length s - 24)) (q : computed ≡ crc (take (length s - 24) s)) where
+  pub checksum-differs : (computed ≡ stored → ⊥) → Refused Checksum ≡ checksumVerdict s
+  unfolding checksumVerdict footerOf
+  checksum-differs d = rw (← p, ← q, ne-eqb stored computed (λ e. d (sym e)))
+
+  pub checksum-right : computed ≡ stored → Accepted ≡ checksumVerdict s
+  unfolding checksumVerdict footerOf
+  checksum-right d = rw (← p, ← q, eq-eqb stored computed (sym d))

@@ -1,0 +1,130 @@
+// The header's rules: 2, 3, 4 and 5, and the checksum, 6. Sums are compared by taking parts away, so nothing wraps.
+ghost use mathlib.Core.Path.{_≡_};
+ghost use Prim.Native.Nat.{_+_, _*_, _≤_};
+ghost use lib.Dec.{eqb};
+ghost use lib.ListN.{length};
+ghost use Rattle.segment.specs.Format.{v3};
+ghost use Rattle.segment.specs.Check.{headVerdict, layoutVerdict, checksumVerdict};
+ghost use Rattle.check_header.specs.HeaderRules.{headerRules};
+use field_frame::footer;
+use answer::Refusal;
+use answer::Verdict;
+use segment::extent::Extent;
+use segment::footer::Footer;
+use segment::header;
+use segment::header::Header;
+use segment::record::Record;
+
+fn check_head(h: Header) -> Verdict
+    ensures { λ r. ⌜ r ≡ headVerdict v3 h ⌝ }
+{
+    if h.magic != Header::MAGIC {
+        return Verdict::Refused(Refusal::Magic);
+    }
+    if h.version != Header::VERSION {
+        return Verdict::Refused(Refusal::Version);
+    }
+    if h.header_size != Header::STATED {
+        return Verdict::Refused(Refusal::Header);
+    }
+    if h.federation != 0 {
+        return Verdict::Refused(Refusal::Header);
+    }
+    if h.reserved != 0 {
+        return Verdict::Refused(Refusal::Header);
+    }
+    if h.flags != 0 {
+        return Verdict::Refused(Refusal::Header);
+    }
+    if 1 < h.visibility {
+        return Verdict::Refused(Refusal::Header);
+    }
+    Verdict::Accepted
+}
+
+// Whether whole is a + b, over whole numbers.
+fn is_sum(whole: u64, a: u64, b: u64) -> bool
+    ensures { λ r. ⌜ r ≡ eqb whole (a + b) ⌝ }
+{
+    if whole < a {
+        return false;
+    }
+    whole - a == b
+}
+
+// Whether a file of n bytes ends as it should: count extents from a place on, and the footer.
+fn ends_so(n: u64, extents: u64, count: u64) -> bool
+    ensures { λ r. ⌜ r ≡ eqb n (extents + 16 * count + 24) ⌝ }
+{
+    if n < Footer::LONG {
+        return false;
+    }
+    let body = n - Footer::LONG;
+    if body < extents {
+        return false;
+    }
+    let rest = body - extents;
+    if rest % Extent::LONG != 0 {
+        return false;
+    }
+    rest / Extent::LONG == count
+}
+
+fn check_layout(h: Header, n: u64) -> Verdict
+    ensures { λ r. ⌜ r ≡ layoutVerdict v3 h n ⌝ }
+{
+    if h.bloom_offset.0 != header::bloom_place(h.bloom_size) {
+        return Verdict::Refused(Refusal::Layout);
+    }
+    if h.bloom_size % 8 != 0 {
+        return Verdict::Refused(Refusal::Layout);
+    }
+    if 65536 < h.record_count {
+        return Verdict::Refused(Refusal::Layout);
+    }
+    if !is_sum(h.records_offset.0, Header::LONG, h.bloom_size) {
+        return Verdict::Refused(Refusal::Layout);
+    }
+    if !is_sum(
+        h.digests_offset.0,
+        h.records_offset.0,
+        Record::LONG * h.record_count,
+    ) {
+        return Verdict::Refused(Refusal::Layout);
+    }
+    if h.digests_size % 8 != 0 {
+        return Verdict::Refused(Refusal::Layout);
+    }
+    if !is_sum(h.extents_offset.0, h.digests_offset.0, h.digests_size) {
+        return Verdict::Refused(Refusal::Layout);
+    }
+    if !ends_so(n, h.extents_offset.0, h.extent_count) {
+        return Verdict::Refused(Refusal::Layout);
+    }
+    Verdict::Accepted
+}
+
+// 2 to 5, of a file of n bytes.
+pub fn check_header(h: Header, n: u64) -> Verdict
+    ensures { λ r. ⌜ r ≡ headerRules h n ⌝ }
+{
+    match check_head(h) {
+        Verdict::Refused(r) => {
+            return Verdict::Refused(r);
+        }
+        Verdict::Accepted => {}
+    }
+    check_layout(h, n)
+}
+
+pub fn check_checksum(seg: &[u8]) -> Verdict
+    requires { ⌜ 24 ≤ length (now seg) ⌝ }
+    ensures { λ r. ⌜ r ≡ checksumVerdict (now (seg .entry)) ⌝ }
+{
+    let end = seg.len() - Footer::SIZE;
+    let stored = footer::checksum(seg, end);
+    if crc64::crc64_plain(&seg[..end]) != stored {
+        return Verdict::Refused(Refusal::Checksum);
+    }
+    Verdict::Accepted
+}

@@ -1,0 +1,2 @@
+pub mod RecordRows
+pub mod RecordsPass

@@ -1,0 +1,74 @@
+-- How a record's tables stand in order, and the pass over all records.
+-- Assumes nothing.
+use Prim.Native.Nat.{ℕ, _+_, _*_, _≤_, _<_, max}
+use mathlib.Core.Path.{_≡_, refl, sym, _∙_}
+use mathlib.Core.List.{List}
+use native.Mathlib.Numerals.{add-one}
+use native.Mathlib.Omega.{arith}
+use Rattle.answer.specs.declared.Refusal.{Refusal}
+use Rattle.answer.specs.declared.Verdict.{Verdict}
+use Rattle.answer.specs.declared.Verdict.the-variants.{Accepted, Refused}
+use Rattle.answer.specs.Rules.{_then_, firstOver}
+use Rattle.answer.proofs.Order.{then-assoc, first-none, first-more, first-refused}
+use Rattle.segment.specs.declared.header.Header.{Header}
+use Rattle.segment.specs.declared.record.Record.{Record}
+use Rattle.segment.specs.Format.{v3, recordOf, recordNo, recordsOffset}
+use Rattle.segment.specs.Check.{marksVerdict, digestVerdict, extentsVerdict, totalVerdict, recordRules, recordVerdict, largestBelow, visibilityNo}
+use Rattle.check_extents.specs.ExtentRules.{slicesRules}
+use Rattle.check_records.specs.declared.Passed.the-variants.{Largest, Refused as NotPassed}
+use Rattle.check_records.specs.RecordsPassed.{identityRules, passed}
+
+-- ---- one record
+
+module _ (pairs : List ℕ) (h : Header) (r : Record) (k : ℕ) where
+  pub marks-stop : (x : Refusal) → marksVerdict h r k ≡ Refused x → Refused x ≡ identityRules pairs h r k
+  unfolding identityRules
+  marks-stop x e = rw e
+
+  pub marks-pass : {v : Verdict} → marksVerdict h r k ≡ Accepted → v ≡ digestVerdict pairs h r k → v ≡ identityRules pairs h r k
+  unfolding identityRules
+  marks-pass e f = rw e f
+
+module _ (pairs s : List ℕ) (h : Header) (r : Record) (k : ℕ) where
+  in-two : recordRules v3 pairs s h r k ≡ (identityRules pairs h r k then slicesRules s h r k)
+  unfolding recordRules identityRules slicesRules
+  in-two = sym (then-assoc (marksVerdict h r k) (digestVerdict pairs h r k) (extentsVerdict h r k then totalVerdict v3 s r k))
+
+  pub identity-stop : (x : Refusal) → identityRules pairs h r k ≡ Refused x → Refused x ≡ recordRules v3 pairs s h r k
+  identity-stop x e = sym (in-two ∙ rw e)
+
+  pub identity-pass : {v : Verdict} → identityRules pairs h r k ≡ Accepted → v ≡ slicesRules s h r k → v ≡ recordRules v3 pairs s h r k
+  identity-pass e f = f ∙ sym (in-two ∙ rw e)
+
+-- ---- the pass over the records
+
+-- a pass has come to k, and nothing is refused below it
+pub record Passing (pairs s : List ℕ) (h : Header) (k largest : ℕ) : Type 0 where
+  pub accepted : firstOver k (recordVerdict v3 pairs s h) ≡ Accepted
+  pub shown : largest ≡ largestBelow k (visibilityNo v3 s h)
+
+pub pass-start : (pairs s : List ℕ) (h : Header) → Passing pairs s h 0 0
+unfolding largestBelow
+pass-start pairs s h = record { accepted = first-none (recordVerdict v3 pairs s h); shown = refl }
+
+module _ (pairs s : List ℕ) (h : Header) (k largest : ℕ) (r : Record) (p : Passing pairs s h k largest) (q : r ≡ recordOf v3 s (recordsOffset h + 48 * k)) where
+  here : recordRules v3 pairs s h r k ≡ recordVerdict v3 pairs s h k
+  unfolding recordVerdict recordNo
+  here = rw q
+
+  pub pass-refused : (n : ℕ) (x : Refusal) → k < n → recordRules v3 pairs s h r k ≡ Refused x → NotPassed x ≡ passed pairs s h n
+  unfolding passed
+  pass-refused n x l e = rw (first-refused n k (recordVerdict v3 pairs s h) x l (p .accepted) (sym here ∙ e))
+
+  pub pass-more : (m : ℕ) → recordRules v3 pairs s h r k ≡ Accepted → m ≡ max largest (r .visibility) → Passing pairs s h (k + 1) m
+  unfolding largestBelow visibilityNo recordNo
+  pass-more m e f = record {
+    accepted = first-more k (recordVerdict v3 pairs s h) (p .accepted) (sym here ∙ e);
+    shown = f ∙ rw (add-one, p .shown, q);
+  }
+
+pub pass-done : (pairs s : List ℕ) (h : Header) (n k largest : ℕ) → Passing pairs s h k largest → k ≤ n → n ≤ k → Largest largest ≡ passed pairs s h n
+unfolding passed
+pass-done pairs s h n k largest p a b =
+    let e : n ≡ k = omega arith in
+    rw (e, p .accepted, ← p .shown)

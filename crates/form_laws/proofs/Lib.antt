@@ -1,0 +1,14 @@
+pub mod PartsAt
+pub mod PackedFields
+pub mod Structures
+pub mod Shapes
+pub mod Sizes
+pub mod Checksum
+pub mod States
+pub mod FormRecords
+pub mod LargestVisibility
+pub mod FormParts
+pub mod RoundTrip
+pub mod SortedForm
+pub mod Canonical
+pub mod Meanings

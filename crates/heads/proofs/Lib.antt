@@ -1,2 +1,0 @@
-pub mod HeaderRows
-pub mod Whole

@@ -1,0 +1,49 @@
+-- What each kind of source says of an item: where it stands, its hash id, and where its digest lies.
+-- Assumes nothing.
+use Prim.Native.Nat.{ℕ, _+_, _-_, _*_, _≤_}
+use mathlib.Core.Path.{_≡_, subst}
+use mathlib.Core.List.{List}
+use native.Mathlib.Omega.{arith}
+use lib.ListN.{length, getD, take, drop}
+use Rattle.numbers.specs.Numbers.{numAt}
+use Rattle.segment.specs.Format.{recordOf}
+use Rattle.key.specs.declared.Kind.{Kind}
+use Rattle.key.specs.declared.Kind.the-variants.{Records, Entries}
+use Rattle.key.specs.declared.Span.{Span}
+use Rattle.key.specs.Items.{recordSpan, entrySpan, itemHash, itemSpan, itemDigest, Stands, Item}
+
+module _ (kind : Kind) (bytes list : List ℕ) (k : ℕ) where
+  pub record-stands : (at : ℕ) → kind ≡ Records at → Item kind bytes list k → at + 48 * k + 48 ≤ length bytes
+  unfolding Stands
+  record-stands at e i = subst (λ (q : Kind). Stands q bytes list k) e (i .stands)
+
+  pub entry-stands : kind ≡ Entries → Item kind bytes list k → 9 * k + 9 ≤ length list
+  unfolding Stands
+  entry-stands e i = subst (λ (q : Kind). Stands q bytes list k) e (i .stands)
+
+  pub record-hash : (at : ℕ) {r : ℕ} → kind ≡ Records at → r ≡ numAt 4 bytes (at + 48 * k) → r ≡ itemHash kind bytes list k
+  unfolding itemHash recordOf
+  record-hash at e h = rw e h
+
+  pub entry-hash : kind ≡ Entries → getD list (9 * k) 0 ≡ itemHash kind bytes list k
+  unfolding itemHash
+  entry-hash e = rw e
+
+  pub record-digest : (at : ℕ) {r : Span} → kind ≡ Records at → r ≡ recordSpan bytes (at + 48 * k) → r ≡ itemSpan kind bytes list k
+  unfolding itemSpan
+  record-digest at e h = rw e h
+
+  pub entry-digest : {r : Span} → kind ≡ Entries → r ≡ entrySpan list (9 * k) → r ≡ itemSpan kind bytes list k
+  unfolding itemSpan
+  entry-digest e h = rw e h
+
+  -- a span that is the item's lies in the bytes, and holds its digest
+  module _ (r : Span) (e : r ≡ itemSpan kind bytes list k) where
+    pub inside : Item kind bytes list k → r .start + r .size ≤ length bytes
+    inside i = rw e (i .digest)
+
+    pub held : take (r .start + r .size - r .start) (drop (r .start) bytes) ≡ itemDigest kind bytes list k
+    unfolding itemDigest
+    held =
+        let n : r .start + r .size - r .start ≡ r .size = omega arith in
+        rw (n, e)

@@ -1,0 +1,3 @@
+pub mod KeyColumns
+pub mod Duplicates
+pub mod ItemOrder

@@ -1,0 +1,48 @@
+-- The items whose keys are compared: the records of a segment, or the entries that write is lent. The bytes are the segment's, or the
+-- run of digest bytes; the list is not read for records, and holds the entries.
+--   itemHash, itemSpan   an item's hash id, and where its digest lies in the bytes
+--   itemDigest, itemKey  its digest, and its key
+--   Item, Items          one item, and each of n items, can be read
+-- Assumes nothing: these are definitions.
+use Prim.Native.Nat.{ℕ, _+_, _*_, _≤_, _<_}
+use mathlib.Core.List.{List}
+use lib.ListN.{length, getD, take, drop}
+use Rattle.segment.specs.Format.{v3, recordOf}
+use Rattle.segment.specs.Keys.{keyOf}
+use Rattle.key.specs.declared.Kind.{Kind}
+use Rattle.key.specs.declared.Kind.the-variants.{Records, Entries}
+use Rattle.key.specs.declared.Span.{Span}
+
+-- where the digest of a record lies, and of an entry whose nine numbers begin at a place of the list
+unfoldable pub recordSpan : List ℕ → ℕ → Span
+recordSpan bytes at = record { start = recordOf v3 bytes at .«digest_offset» .0; size = recordOf v3 bytes at .«digest_length» }
+
+unfoldable pub entrySpan : List ℕ → ℕ → Span
+entrySpan list at = record { start = getD list (at + 1) 0; size = getD list (at + 2) 0 }
+
+unfoldable pub itemHash : Kind → List ℕ → List ℕ → ℕ → ℕ
+itemHash (Records at) bytes list k = recordOf v3 bytes (at + 48 * k) .«hash_id»
+itemHash Entries bytes list k = getD list (9 * k) 0
+
+unfoldable pub itemSpan : Kind → List ℕ → List ℕ → ℕ → Span
+itemSpan (Records at) bytes list k = recordSpan bytes (at + 48 * k)
+itemSpan Entries bytes list k = entrySpan list (9 * k)
+
+unfoldable pub itemDigest : Kind → List ℕ → List ℕ → ℕ → List ℕ
+itemDigest kind bytes list k = take (itemSpan kind bytes list k .size) (drop (itemSpan kind bytes list k .start) bytes)
+
+unfoldable pub itemKey : Kind → List ℕ → List ℕ → ℕ → List ℕ
+itemKey kind bytes list k = keyOf (itemHash kind bytes list k) (itemDigest kind bytes list k)
+
+-- the item itself stands in its source
+unfoldable pub Stands : Kind → List ℕ → List ℕ → ℕ → Type 0
+Stands (Records at) bytes list k = at + 48 * k + 48 ≤ length bytes
+Stands Entries bytes list k = 9 * k + 9 ≤ length list
+
+-- and so does its digest, in the bytes
+pub record Item (kind : Kind) (bytes list : List ℕ) (k : ℕ) : Type 0 where
+  pub stands : Stands kind bytes list k
+  pub digest : itemSpan kind bytes list k .start + itemSpan kind bytes list k .size ≤ length bytes
+
+pub record Items (kind : Kind) (bytes list : List ℕ) (n : ℕ) : Type 0 where
+  pub each : (k : ℕ) → k < n → Item kind bytes list k

@@ -1,0 +1,69 @@
+// Keys of items, over two kinds of source: the records of a segment, and the entries that write is lent. Both kinds have their
+// digests in a run of bytes. One function for each column knows the kinds; nothing above it does.
+ghost use mathlib.Core.Path.{_≡_};
+ghost use Prim.Native.Nat.{_+_, _≤_};
+ghost use lib.ListN.{length};
+ghost use Rattle.key.specs.Items.{recordSpan, entrySpan, Item, itemHash, itemSpan, itemDigest};
+use field_record::record;
+use segment::record::Record;
+
+// The records that begin at a byte of the segment, or the entries of a flat list, nine numbers each.
+pub enum Kind {
+    Records(usize),
+    Entries,
+}
+
+// A part of the bytes: where it starts, and how long it is.
+pub struct Span {
+    pub start: usize,
+    pub size: usize,
+}
+
+pub fn hash_of(kind: Kind, bytes: &[u8], list: &[u64], k: usize) -> u64
+    requires { ⌜ Item kind (now bytes) (now list) k ⌝ }
+    ensures { λ r. ⌜ r ≡ itemHash kind (now (bytes .entry)) (now (list .entry)) k ⌝ }
+{
+    match kind {
+        Kind::Records(at) => record::hash_id(bytes, at + Record::SIZE * k) as u64,
+        Kind::Entries => list[9 * k],
+    }
+}
+
+fn record_span(bytes: &[u8], at: usize) -> Span
+    requires { ⌜ at + 48 ≤ length (now bytes) ⌝ }
+    ensures { λ r. ⌜ r ≡ recordSpan (now (bytes .entry)) at ⌝ }
+{
+    let start = record::digest_offset(bytes, at).0 as usize;
+    let size = record::digest_length(bytes, at) as usize;
+    Span { start, size }
+}
+
+fn entry_span(list: &[u64], at: usize) -> Span
+    requires { ⌜ at + 9 ≤ length (now list) ⌝ }
+    ensures { λ r. ⌜ r ≡ entrySpan (now (list .entry)) at ⌝ }
+{
+    let start = list[at + 1] as usize;
+    let size = list[at + 2] as usize;
+    Span { start, size }
+}
+
+// Where the digest of an item lies in the bytes.
+pub fn digest_span(kind: Kind, bytes: &[u8], list: &[u64], k: usize) -> Span
+    requires { ⌜ Item kind (now bytes) (now list) k ⌝ }
+    ensures { λ r. ⌜ r ≡ itemSpan kind (now (bytes .entry)) (now (list .entry)) k ⌝ }
+{
+    match kind {
+        Kind::Records(at) => record_span(bytes, at + Record::SIZE * k),
+        Kind::Entries => entry_span(list, 9 * k),
+    }
+}
+
+pub fn digest<'a>(kind: Kind, bytes: &'a [u8], list: &[u64], k: usize) -> &'a [u8]
+    requires { ⌜ Item kind (now bytes) (now list) k ⌝ }
+    ensures { λ r. ⌜ now r ≡ itemDigest kind (now (bytes .entry)) (now (list .entry)) k ⌝ }
+{
+    let span = digest_span(kind, bytes, list, k);
+    let start = span.start;
+    let end = start + span.size;
+    &bytes[start..end]
+}

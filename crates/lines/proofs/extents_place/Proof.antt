@@ -1,7 +1,0 @@
--- `lines::extents_place` meets its contract: nowhere, or at the place.
-use Rattle.rules.proofs.Order.{tests}
-use Rattle.lines.proofs.extents_place.Statement.{statement}
-use Rattle.lines.proofs.extents_place.Tie as tie
-
-pub extents-place-spec : {M : Type 1} → statement M
-extents-place-spec = tie.close (tie.spec (λ c. let e = c .if1 .taken in simp tests) (λ c. let e = c .if1 .left in simp tests))

@@ -1,0 +1,2 @@
+pub mod ListedRows
+pub mod LinesPut

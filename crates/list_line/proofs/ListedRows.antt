@@ -1,0 +1,122 @@
+-- The records of a segment that may be listed: where they and what they name lie, and their rows in the meaning.
+-- Assumes nothing.
+use Prim.Native.Nat.{ℕ, zero, suc, _+_, _-_, _*_, _≤_, _<_}
+use mathlib.Core.Path.{_≡_, refl, sym, ap, _∙_}
+use mathlib.Core.Bool.{Bool, true, false, cond}
+use mathlib.Core.List.{List, [], _∷_, map, append-assoc}
+use native.Mathlib.Nat.{not-suc-le-zero}
+use native.Mathlib.Omega.{arith}
+use lib.ListN.{length, take, drop, drop-of-length-le}
+use Rattle.segment.specs.declared.header.Header.{Header}
+use Rattle.segment.specs.declared.record.Record.{Record}
+use Rattle.segment.specs.declared.extent.Extent.{Extent}
+use Rattle.segment.specs.Format.{v3, recordOf, recordNo, extentOf, extentsAt, recordCount, recordsOffset}
+use Rattle.segment.specs.Check.{isGone, sumLengths, digestIn}
+use Rattle.segment.specs.Meaning.{gone, live, Row, rowExtents, rowOf, rowNo, rowsOf}
+use Rattle.lists.specs.Lists.{countFrom}
+use Rattle.lists.proofs.Counted.{counted-long}
+use Rattle.form_laws.proofs.Meanings.{extents-counted}
+use Rattle.key.specs.declared.Kind.the-variants.{Records}
+use Rattle.key.specs.Items.{Stands, itemSpan, recordSpan}
+use Rattle.put_item.specs.Lines.{recordEntry, itemEntry, itemExtents, Held, itemTotal, extentsOfEntry, Line}
+use Rattle.put_item.proofs.ItemRows.{row-extents, record-row}
+use Rattle.list_columns.specs.Listing.{stateWord, recordLine}
+use Rattle.list_columns.specs.Columns.{goneWord, identityCells, standingCells, recordCells}
+use Rattle.list_line.specs.Stopped.{Listable}
+
+-- ---- the rows
+
+counted-here : {A : Type 0} (f : ℕ → A) (k a n : ℕ) → k < n → drop k (map f (countFrom a n)) ≡ f (a + k) ∷ drop (suc k) (map f (countFrom a n))
+unfolding countFrom
+counted-here f k a zero l = absurd (not-suc-le-zero l)
+counted-here f zero a (suc n) l = ap (λ (i : ℕ). f i ∷ map f (countFrom (suc a) n)) (omega arith)
+counted-here f (suc k) a (suc n) l =
+    counted-here f k (suc a) n (omega arith) ∙ ap (λ (i : ℕ). f i ∷ drop (suc k) (map f (countFrom (suc a) n))) (omega arith)
+
+module _ (s : List ℕ) (h : Header) where
+  pub rows-long : length (rowsOf v3 s h) ≡ recordCount h
+  unfolding rowsOf
+  rows-long = counted-long (rowNo v3 s h) 0 (recordCount h)
+
+  pub rows-past : (k : ℕ) → recordCount h ≤ k → drop k (rowsOf v3 s h) ≡ []
+  rows-past k l = drop-of-length-le (rowsOf v3 s h) {i = k} (omega (arith, rows-long))
+
+  pub rows-here : (k : ℕ) → k < recordCount h → drop k (rowsOf v3 s h) ≡ rowNo v3 s h k ∷ drop (suc k) (rowsOf v3 s h)
+  unfolding rowsOf
+  rows-here k l = counted-here (rowNo v3 s h) k 0 (recordCount h) l ∙ ap (λ (i : ℕ). rowNo v3 s h i ∷ drop (suc k) (map (rowNo v3 s h) (countFrom 0 (recordCount h)))) (omega arith)
+
+-- ---- the extents
+
+pub extents-past : (s : List ℕ) (at n j : ℕ) → n ≤ j → drop j (extentsAt s at n) ≡ []
+extents-past s at n j l = drop-of-length-le (extentsAt s at n) {i = j} (omega (arith, extents-counted s at n))
+
+pub extents-here : (s : List ℕ) (at n j : ℕ) → j < n → drop j (extentsAt s at n) ≡ extentOf s (at + 16 * j) ∷ drop (suc j) (extentsAt s at n)
+unfolding extentsAt
+extents-here s at zero j l = absurd (not-suc-le-zero l)
+extents-here s at (suc n) zero l = ap (λ (i : ℕ). extentOf s i ∷ extentsAt s (at + 16) n) (omega arith)
+extents-here s at (suc n) (suc j) l =
+    extents-here s (at + 16) n j (omega arith) ∙ ap (λ (i : ℕ). extentOf s i ∷ drop (suc j) (extentsAt s (at + 16) n)) (omega arith)
+
+-- a part is no longer than it was asked to be
+pub part-short : (n : ℕ) (xs : List ℕ) → length (take n xs) ≤ n
+part-short zero xs = omega arith
+part-short (suc n) [] = omega arith
+part-short (suc n) (x ∷ xs) = omega (arith, part-short n xs)
+
+pub digest-short : (s : List ℕ) (at n : ℕ) → n ≤ 1024 → length (take (at + n - at) (drop at s)) ≤ 1024
+digest-short s at n h = omega (arith, part-short (at + n - at) (drop at s))
+
+-- ---- a record's line, from the record and from its row
+
+state-word : (b : Bool) (es : List Extent) → goneWord b ≡ stateWord (cond b gone (live es))
+state-word true es = refl
+state-word false es = refl
+
+line-of : (k : ℕ) (q : Record) (s : List ℕ) → sumLengths (rowExtents (rowOf s q)) ≡ q .«total_length» → length (rowExtents (rowOf s q)) ≡ q .«extent_count»
+    → recordCells k q (digestIn s q) ≡ recordLine k (rowOf s q)
+unfolding recordCells identityCells standingCells recordLine rowOf
+line-of k q s t n =
+    rw (t, n, ← state-word (isGone q) (extentsAt s (q .«extents_offset» .0) (q .«extent_count»))) (simp append-assoc)
+
+-- ---- a record that was read
+
+module _ (s : List ℕ) (h : Header) (v : Listable s h) (k : ℕ) (l : k < recordCount h) where
+  line : Line (Records (recordsOffset h)) s [] [] k
+  line = v .lines .each k l
+
+  pub record-fits : recordsOffset h + 48 * k + 48 ≤ length s
+  unfolding Stands
+  record-fits = line .counted .item .stands
+
+  module _ (r : Record) (e : r ≡ recordOf v3 s (recordsOffset h + 48 * k)) where
+    pub record-known : (r .«digest_offset» .0 + r .«digest_length» ≤ length s) × (r .«digest_length» ≤ 1024)
+        × (r .«extents_offset» .0 + 16 * r .«extent_count» ≤ length s) × (r .«extent_count» < 4294967296)
+    unfolding itemEntry recordEntry itemSpan recordSpan Held
+    record-known = rw e (line .counted .item .digest, line .counted .narrow .digest, line .held, line .counted .narrow .extents)
+
+    is-row : rowOf s r ≡ rowNo v3 s h k
+    unfolding rowNo recordNo
+    is-row = ap (rowOf s) e
+
+    pub record-extents : rowExtents (rowNo v3 s h k) ≡ extentsAt s (r .«extents_offset» .0) (r .«extent_count»)
+    unfolding extentsOfEntry itemExtents itemEntry recordEntry
+    record-extents =
+        ap rowExtents (sym (record-row s [] [] h k)) ∙ row-extents (Records (recordsOffset h)) s [] [] k line
+        ∙ ap (λ (q : Record). extentsAt s (q .«extents_offset» .0) (q .«extent_count»)) (sym e)
+
+    total : sumLengths (rowExtents (rowOf s r)) ≡ r .«total_length»
+    unfolding itemTotal extentsOfEntry itemExtents itemEntry recordEntry
+    total =
+        ap (λ (w : Row). sumLengths (rowExtents w)) is-row ∙ ap sumLengths record-extents
+        ∙ ap (λ (q : Record). sumLengths (extentsAt s (q .«extents_offset» .0) (q .«extent_count»))) e
+        ∙ sym (line .total) ∙ ap (λ (q : Record). q .«total_length») (sym e)
+
+    pub record-count : length (rowExtents (rowNo v3 s h k)) ≡ r .«extent_count»
+    record-count = ap length record-extents ∙ extents-counted s (r .«extents_offset» .0) (r .«extent_count»)
+
+    pub record-line : (stop : ℕ) → stop ≡ r .«digest_offset» .0 + r .«digest_length»
+        → recordCells k r (take (stop - r .«digest_offset» .0) (drop (r .«digest_offset» .0) s)) ≡ recordLine k (rowNo v3 s h k)
+    unfolding digestIn
+    record-line stop p =
+        let n : stop - r .«digest_offset» .0 ≡ r .«digest_length» = omega arith in
+        rw n (line-of k r s total (ap (λ (w : Row). length (rowExtents w)) is-row ∙ record-count)) ∙ ap (recordLine k) is-row

@@ -1,0 +1,4 @@
+pub mod Checked
+pub mod Fills
+pub mod WholeText
+pub mod Starts

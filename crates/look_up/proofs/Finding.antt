@@ -1,0 +1,194 @@
+-- The laws of a search for a key among the records, and of what is said of the record that has it.
+-- Assumes nothing.
+use Prim.Native.Nat.{ℕ, zero, suc, _+_, _*_, _≤_, _<_}
+use mathlib.Core.Path.{_≡_, refl, sym, ap, _∙_}
+use mathlib.Core.Bool.{Bool, true, false, not, cond}
+use mathlib.Core.Logic.{⊎-elim}
+use mathlib.Core.List.{List}
+use native.Mathlib.Nat.{not-suc-le-zero, eq-or-lt-of-le, le-of-suc-le-suc}
+use native.Mathlib.Numerals.{add-one}
+use native.Mathlib.Omega.{arith}
+use lib.ListN.{length}
+use Rattle.answer.specs.declared.Refusal.{Refusal}
+use Rattle.answer.specs.declared.Refusal.the-variants.{Key, Table as TableWrong}
+use Rattle.answer.specs.declared.Verdict.the-variants.{Accepted, Refused as Stopped}
+use Rattle.answer.specs.declared.Source.{Source}
+use Rattle.answer.specs.declared.Source.the-variants.{None, Domain}
+use Rattle.answer.specs.declared.Found.{Found}
+use Rattle.answer.specs.declared.Found.the-variants.{Absent, Gone, Present, Refused}
+use Rattle.answer.specs.Answers.{foundAnswer}
+use Rattle.lists.proofs.Tests.{tests, was-true, was-false}
+use Rattle.segment.specs.declared.header.Header.{Header}
+use Rattle.segment.specs.declared.record.Record.{Record}
+use Rattle.segment.specs.Format.{v3, headerOf, recordOf, recordNo, recordCount, recordsOffset}
+use Rattle.table.specs.Table.{goodTable, tableVerdict, allows}
+use Rattle.segment.specs.Keys.{keyOf}
+use Rattle.lists.specs.Lists.{eqList}
+use Rattle.segment.specs.Check.{isGone, digestIn, keyNo, segmentVerdict}
+use Rattle.segment.specs.Meaning.{sourceOf}
+use Rattle.segment.specs.LookUp.{keyVerdict, recordFound, _orElse_, foundOver, foundNo, foundIn, foundUnder, lookedUp, lookUpOf}
+use Rattle.key.specs.declared.Kind.the-variants.{Records}
+use Rattle.key.specs.Items.{itemKey, itemHash, itemDigest, itemSpan, recordSpan}
+
+-- ---- one record
+
+pub no-source : (imported domain : ℕ) → imported ≡ 0 → None ≡ sourceOf imported domain
+no-source imported domain e = simp tests
+
+pub a-source : (imported domain : ℕ) → (imported ≡ 0 → ⊥) → Domain domain ≡ sourceOf imported domain
+a-source imported domain e = simp tests
+
+module _ (r : Record) (o : Source) (e : o ≡ sourceOf (r .imported) (r .source)) where
+  pub found-gone : r .flags ≡ 1 → Gone (r .visibility) (r .domain) o ≡ recordFound r
+  unfolding recordFound
+  found-gone g = rw e (simp tests)
+
+  pub found-live : (r .flags ≡ 1 → ⊥)
+      → Present (r .visibility) (r .domain) o (r .«total_length») (r .«extents_offset» .0) (r .«extent_count») ≡ recordFound r
+  unfolding recordFound
+  found-live g = rw e (simp tests)
+
+-- a record that was found is not absent
+pub never-absent : (r : Record) → recordFound r ≡ Absent → ⊥
+unfolding recordFound
+never-absent r = go (isGone r)
+  where
+    go : (b : Bool)
+        → cond b (Gone (r .visibility) (r .domain) (sourceOf (r .imported) (r .source)))
+        (Present (r .visibility) (r .domain) (sourceOf (r .imported) (r .source)) (r .«total_length») (r .«extents_offset» .0) (r .«extent_count»))
+        ≡ Absent → ⊥
+    go true e = let z : _≡_ {A = ℕ} 0 1 = cc in omega arith
+    go false e = let z : _≡_ {A = ℕ} 0 1 = cc in omega arith
+
+-- ---- the first that is not absent
+
+pub found-none : (f : ℕ → Found) → foundOver 0 f ≡ Absent
+unfolding foundOver
+found-none f = refl
+
+pub found-more : (k : ℕ) (f : ℕ → Found) → foundOver k f ≡ Absent → f k ≡ Absent → foundOver (k + 1) f ≡ Absent
+unfolding foundOver
+found-more k f p q = rw (add-one, p) q
+
+pub found-all : (n : ℕ) (f : ℕ → Found) → ((k : ℕ) → k < n → f k ≡ Absent) → foundOver n f ≡ Absent
+unfolding foundOver
+found-all zero f h = refl
+found-all (suc n) f h = rw (found-all n f (λ k l. h k (omega arith))) (h n (omega arith))
+
+stays : (f g : Found) → (f ≡ Absent → ⊥) → (f orElse g) ≡ f
+stays Absent g h = absurd (h refl)
+stays (Gone v d s) g h = refl
+stays (Present v d s t a n) g h = refl
+stays (Refused r) g h = refl
+
+pub found-first : (n k : ℕ) (f : ℕ → Found) → k < n → foundOver k f ≡ Absent → (f k ≡ Absent → ⊥) → foundOver n f ≡ f k
+unfolding foundOver
+found-first zero k f h p q = absurd (not-suc-le-zero h)
+found-first (suc n) k f h p q =
+    ⊎-elim
+    (λ (e : k ≡ n). let p′ : foundOver n f ≡ Absent = rw e at p in rw p′ (ap f (sym e)))
+    (λ (l : k < n). rw (found-first n k f l p q) (stays (f k) (f n) q))
+    (eq-or-lt-of-le (le-of-suc-le-suc h))
+
+-- ---- a search refuses nothing
+
+pub data Told : Found → Type 0 where
+  absent : Told Absent
+  gone : (v d : ℕ) (o : Source) → Told (Gone v d o)
+  present : (v d : ℕ) (o : Source) (t a n : ℕ) → Told (Present v d o t a n)
+
+told-else : {f g : Found} → Told f → Told g → Told (f orElse g)
+told-else absent t = t
+told-else (gone v d o) t = gone v d o
+told-else (present v d o t a n) u = present v d o t a n
+
+told-cond : (b : Bool) {f g : Found} → Told f → Told g → Told (cond b f g)
+told-cond true t u = t
+told-cond false t u = u
+
+told-no : (s : List ℕ) (h : Header) (key : List ℕ) (k : ℕ) → Told (foundNo v3 s h key k)
+unfolding foundNo recordFound
+told-no s h key k =
+    told-cond (eqList (keyNo v3 s h k) key)
+    (told-cond (isGone (recordNo v3 s h k)) (gone _ _ _) (present _ _ _ _ _ _))
+    absent
+
+told-over : (n : ℕ) (f : ℕ → Found) → ((k : ℕ) → Told (f k)) → Told (foundOver n f)
+unfolding foundOver
+told-over zero f t = absent
+told-over (suc n) f t = told-else (told-over n f t) (t n)
+
+told-refused : {f : Found} {r : Refusal} → Told f → f ≡ Refused r → ⊥
+told-refused absent e = let z : _≡_ {A = ℕ} 0 1 = cc in omega arith
+told-refused (gone v d o) e = let z : _≡_ {A = ℕ} 0 1 = cc in omega arith
+told-refused (present v d o t a n) e = let z : _≡_ {A = ℕ} 0 1 = cc in omega arith
+
+pub never-refused : (s : List ℕ) (h : Header) (key : List ℕ) (r : Refusal) → foundIn v3 s h key ≡ Refused r → ⊥
+unfolding foundIn
+never-refused s h key r = told-refused (told-over (recordCount h) (foundNo v3 s h key) (told-no s h key))
+
+-- ---- a segment's records
+
+-- a search has come to k, and no record below it has the key
+pub record Searching (s : List ℕ) (key : List ℕ) (k : ℕ) : Type 0 where
+  pub none : foundOver k (foundNo v3 s (headerOf s) key) ≡ Absent
+
+pub search-start : (s key : List ℕ) → Searching s key 0
+search-start s key = record { none = found-none (foundNo v3 s (headerOf s) key) }
+
+pub search-done : (s key : List ℕ) (k : ℕ) (h : Header) → h ≡ headerOf s → Searching s key k → k ≤ recordCount h → recordCount h ≤ k → Absent ≡ foundIn v3 s (headerOf s) key
+unfolding foundIn
+search-done s key k h e v a b =
+    let n : recordCount (headerOf s) ≡ k = ap recordCount (sym e) ∙ omega arith in
+    sym (ap (λ (m : ℕ). foundOver m (foundNo v3 s (headerOf s) key)) n ∙ v .none)
+
+module _ (pairs s : List ℕ) (h : Header) (hash : ℕ) (digest : List ℕ) (k : ℕ) (e : h ≡ headerOf s) (b : Bool)
+    (t : b ≡ eqList (itemKey (Records (recordsOffset h)) s pairs k) (keyOf hash digest)) where
+  -- the item's key is the record's
+  tested : b ≡ eqList (keyNo v3 s (headerOf s) k) (keyOf hash digest)
+  unfolding itemKey itemHash itemDigest itemSpan recordSpan keyNo digestIn recordNo
+  tested = rw e at t
+
+  at-record : (r : Record) → r ≡ recordOf v3 s (recordsOffset h + 48 * k) → r ≡ recordNo v3 s (headerOf s) k
+  unfolding recordNo
+  at-record r q = q ∙ ap (λ (x : Header). recordOf v3 s (recordsOffset x + 48 * k)) e
+
+  pub search-more : Searching s (keyOf hash digest) k → b ≡ false → Searching s (keyOf hash digest) (k + 1)
+  unfolding foundNo
+  search-more v f = record { none = found-more k (foundNo v3 s (headerOf s) (keyOf hash digest)) (v .none) (rw (sym tested ∙ f)) }
+
+  pub search-hit : (r : Record) (o : Found) → Searching s (keyOf hash digest) k → b ≡ true → k < recordCount h
+      → r ≡ recordOf v3 s (recordsOffset h + 48 * k) → o ≡ recordFound r → o ≡ foundIn v3 s (headerOf s) (keyOf hash digest)
+  unfolding foundIn foundNo
+  search-hit r o v f l q p =
+      let n : k < recordCount (headerOf s) = rw e at l in
+      let here : foundNo v3 s (headerOf s) (keyOf hash digest) k ≡ recordFound (recordNo v3 s (headerOf s) k) = rw (sym tested ∙ f) in
+      let same : r ≡ recordNo v3 s (headerOf s) k = at-record r q in
+      p ∙ ap recordFound same ∙ sym here
+      ∙ sym (found-first (recordCount (headerOf s)) k (foundNo v3 s (headerOf s) (keyOf hash digest)) n (v .none) (λ z. never-absent (recordNo v3 s (headerOf s) k) (sym here ∙ z)))
+
+-- ---- the whole
+
+module _ (pairs s : List ℕ) (hash : ℕ) (digest : List ℕ) where
+  pub unknown-key : (b : Bool) → b ≡ allows pairs hash (length digest) → not b ≡ true → Refused Key ≡ foundUnder pairs s hash digest
+  unfolding foundUnder keyVerdict
+  unknown-key b e f = rw (was-false e f)
+
+  module _ (b : Bool) (e : b ≡ allows pairs hash (length digest)) (f : not b ≡ false) where
+    pub segment-stop : (x : Refusal) → segmentVerdict v3 pairs s ≡ Stopped x → Refused x ≡ foundUnder pairs s hash digest
+    unfolding foundUnder keyVerdict
+    segment-stop x g = rw (was-true e f, g)
+
+    pub segment-pass : {o : Found} → segmentVerdict v3 pairs s ≡ Accepted → o ≡ foundIn v3 s (headerOf s) (keyOf hash digest)
+        → o ≡ foundUnder pairs s hash digest
+    unfolding foundUnder keyVerdict
+    segment-pass g h = rw (was-true e f, g) h
+
+  pub table-bad : goodTable pairs ≡ false → foundAnswer (Refused TableWrong) ≡ lookUpOf pairs s hash digest
+  unfolding lookUpOf lookedUp tableVerdict
+  table-bad e = rw e
+
+  pub table-good : (part : List ℕ) {o : Found} → goodTable pairs ≡ true → part ≡ pairs → o ≡ foundUnder part s hash digest
+      → foundAnswer o ≡ lookUpOf pairs s hash digest
+  unfolding lookUpOf lookedUp tableVerdict
+  table-good part e p f = rw e (ap foundAnswer (f ∙ ap (λ (q : List ℕ). foundUnder q s hash digest) p))

@@ -1,0 +1,26 @@
+-- `look_up::look_up` meets its contract: the table, and then the rest under the copied table.
+use mathlib.Core.Path.{_≡_}
+use mathlib.Core.Bool.{true}
+use borrow.Author.Needs.{needs}
+use native.Mathlib.Omega.{arith}
+use Rattle.lists.proofs.Tests.{was-true, was-false}
+use Rattle.table.specs.Table.{goodTable}
+use Rattle.table.proofs.Pairs.{sized, in-front, front-is, front-long}
+use Rattle.look_up.proofs.Finding.{table-bad, table-good}
+use Rattle.look_up.proofs.look_up.Statement.{statement}
+use Rattle.look_up.proofs.look_up.Tie as tie
+
+good : (c : tie.Else1) → goodTable (c .before .before .before .before .before .args .pairs .now) ≡ true
+good c = was-true (c .before .good2 .ensures) (c .if1 .left)
+
+pub look-up-spec : {M : Type 1} → statement M
+look-up-spec =
+    tie.close
+    (tie.spec
+    (λ c κs. search needs)
+    (λ c. table-bad _ _ _ _ (was-false (c .before .good2 .ensures) (c .if1 .taken)))
+    (λ c κs. sized _ (good c))
+    (λ c. in-front _ _ (c .copied .ensures) _ (omega arith))
+    (λ c. front-long _ _ (c .before .copied .ensures) _ (omega arith))
+    (λ c κs. search needs)
+    (λ c. table-good _ _ _ _ _ (good (c .before .before .before)) (front-is _ _ (c .before .before .copied .ensures)) (c .look-up-under .ensures)))

@@ -1,0 +1,93 @@
+// Look up: whether a segment has a record with a key, and what that record says. The whole check is made in every call, so that absent means
+// that no record of an accepted segment has the key.
+ghost use mathlib.Core.Path.{_≡_};
+ghost use Rattle.answer.specs.declared.Verdict.the-variants.{Accepted};
+ghost use Rattle.answer.specs.Answers.{foundAnswer};
+ghost use Rattle.segment.specs.Format.{v3, headerOf};
+ghost use Rattle.segment.specs.Keys.{keyOf};
+ghost use Rattle.segment.specs.Check.{segmentVerdict};
+ghost use Rattle.segment.specs.Meaning.{sourceOf};
+ghost use Rattle.segment.specs.LookUp.{recordFound, foundIn, foundUnder, lookUpOf};
+use key::Kind;
+use answer::Found;
+use answer::Refusal;
+use answer::Source;
+use answer::Verdict;
+use segment::header::Header;
+use segment::record::Record;
+
+fn source(imported: u8, domain: u32) -> Source
+    ensures { λ r. ⌜ r ≡ sourceOf imported domain ⌝ }
+{
+    if imported == 0 {
+        return Source::None;
+    }
+    Source::Domain(domain)
+}
+
+// What is said of a record that was found.
+fn found(r: Record) -> Found
+    ensures { λ f. ⌜ f ≡ recordFound r ⌝ }
+{
+    let origin = source(r.imported, r.source);
+    if r.flags == 1 {
+        return Found::Gone {
+            visibility: r.visibility,
+            domain: r.domain,
+            source: origin,
+        };
+    }
+    Found::Present {
+        visibility: r.visibility,
+        domain: r.domain,
+        source: origin,
+        total: r.total_length,
+        start: r.extents_offset.0,
+        count: r.extent_count,
+    }
+}
+
+// The record of an accepted segment that has the key, if there is one.
+fn find(pairs: &[u64], seg: &[u8], hash: u64, digest: &[u8]) -> Found
+    requires { ⌜ segmentVerdict v3 (now pairs) (now seg) ≡ Accepted ⌝ }
+    ensures { λ r. ⌜ r ≡ foundIn v3 (now (seg .entry)) (headerOf (now (seg .entry))) (keyOf hash (now (digest .entry))) ⌝ }
+{
+    let h = Header::of(seg);
+    let first = h.records_offset.0 as usize;
+    let count = h.record_count as usize;
+    let mut k = 0;
+    while k < count {
+        if key_equal::key_is(Kind::Records(first), seg, pairs, k, hash, digest) {
+            return found(Record::at(seg, first + Record::SIZE * k));
+        }
+        k += 1;
+    }
+    Found::Absent
+}
+
+// Everything but the table.
+fn look_up_under(pairs: &[u64], seg: &[u8], hash: u64, digest: &[u8]) -> Found
+    ensures { λ r. ⌜ r ≡ foundUnder (now (pairs .entry)) (now (seg .entry)) hash (now (digest .entry)) ⌝ }
+{
+    if !table::allows(pairs, hash, digest.len() as u64) {
+        return Found::Refused(Refusal::Key);
+    }
+    match check_segment::check_segment(pairs, seg) {
+        Verdict::Refused(r) => {
+            return Found::Refused(r);
+        }
+        Verdict::Accepted => {}
+    }
+    find(pairs, seg, hash, digest)
+}
+
+pub fn look_up(pairs: &[u64], seg: &[u8], hash: u64, digest: &[u8]) -> Found
+    ensures { λ r. ⌜ foundAnswer r ≡ lookUpOf (now (pairs .entry)) (now (seg .entry)) hash (now (digest .entry)) ⌝ }
+{
+    if !table::good(pairs) {
+        return Found::Refused(Refusal::Table);
+    }
+    let numbers = table::copied(pairs);
+    let count = pairs.len();
+    look_up_under(&numbers[..count], seg, hash, digest)
+}

@@ -1,0 +1,56 @@
+-- What the writers of a segment tell each other.
+--   Moderate          sizes whose sums pass no number's width
+--   headerFor         the header over so many bloom bytes and records that come to some sizes
+--   Plan              a header whose sections are those of rows, in a file of so many bytes
+--   sectionsUnder, bodyUnder   the three sections of rows, and everything before the footer, under such a header
+--   Left, Wrote       what write and tidy answer and leave of a form and an output
+-- Assumes nothing: these are definitions.
+use Prim.Native.Nat.{ℕ, _+_, _*_, _≤_}
+use mathlib.Core.Path.{_≡_}
+use mathlib.Core.List.{List, _++_}
+use lib.ListN.{length}
+use Rattle.answer.specs.declared.Verdict.{Verdict}
+use Rattle.answer.specs.declared.Verdict.the-variants.{Accepted}
+use Rattle.answer.specs.declared.Written.{Written}
+use Rattle.segment.specs.declared.header.Header.{Header}
+use Rattle.segment.specs.declared.header.Heading.{Heading}
+use Rattle.segment.specs.Format.{v3, footerSize, extentSize, fileLimit, recordLimit, recordsOffset, digestsOffset, extentsOffset, extentCount}
+use Rattle.segment.specs.Meaning.{Row}
+use Rattle.segment.specs.Tidy.{packed, headerFields, headerOver, recordsBytes, digestBytes, digestSection, lacking, extentBytes, extentTotal, settled, outputAfter}
+use Rattle.put_item.specs.declared.Sizes.{Sizes}
+
+-- for each of 65,536 records at most 1,024 bytes of digest and 2^32 extents
+pub record Moderate (bloom count : ℕ) (s : Sizes) : Type 0 where
+  pub short : bloom ≤ fileLimit
+  pub few : count ≤ recordLimit
+  pub digests : s .digests ≤ 67108864
+  pub extents : s .extents ≤ 281474976710656
+  pub visibility : s .visibility ≤ 1
+
+unfoldable pub headerFor : Heading → ℕ → ℕ → Sizes → Header
+headerFor t bloom count s = headerOver v3 t bloom count (s .digests + lacking (s .digests)) (s .extents) (s .visibility)
+
+pub record Plan (h : Header) (rows : List Row) (used n : ℕ) : Type 0 where
+  pub few : length rows ≤ recordLimit
+  pub digests : digestsOffset h ≡ recordsOffset h + 48 * length rows
+  pub extents : extentsOffset h ≡ digestsOffset h + length (digestSection rows)
+  pub count : extentCount h ≡ extentTotal rows
+  pub filled : used ≡ length (digestBytes rows)
+  pub file : n ≡ extentsOffset h + extentSize * extentCount h + footerSize
+  pub limit : n ≤ fileLimit
+
+unfoldable pub sectionsUnder : Header → List Row → List ℕ
+sectionsUnder h rows =
+    recordsBytes v3 (h .domain) rows (digestsOffset h) (extentsOffset h) ++ (digestSection rows ++ extentBytes rows)
+
+unfoldable pub bodyUnder : Header → List ℕ → List Row → List ℕ
+bodyUnder h bloom rows = packed (headerFields h) ++ (bloom ++ sectionsUnder h rows)
+
+-- what is left where a verdict comes before the size: the first refusal and the output as it was, or the form and the bytes that stood after it
+pub record Left (v : Verdict) (form out after : List ℕ) (w : Written) : Type 0 where
+  pub answer : w ≡ settled v form (length out)
+  pub output : after ≡ outputAfter w form out
+
+-- and where nothing before the size is refused
+abbrev pub Wrote : List ℕ → List ℕ → List ℕ → Written → Type 0
+Wrote form out after w = Left Accepted form out after w

@@ -1,0 +1,181 @@
+// A segment written from items in the order of their numbers: header, bloom bytes, records, digests, extents and footer. Nothing is
+// written before it is known that the result keeps to the limit and fits the output.
+ghost use mathlib.Core.Path.{_≡_};
+ghost use Prim.Native.Nat.{_+_, _≤_};
+ghost use lib.ListN.{length};
+ghost use Rattle.numbers.specs.Numbers.{put};
+ghost use Rattle.segment.specs.Format.{v3, recordsOffset};
+ghost use Rattle.segment.specs.Tidy.{lacking, formHeader, formOf};
+ghost use Rattle.put_item.specs.Lines.{itemRows, Lines};
+ghost use Rattle.put_form.specs.Emit.{Moderate, headerFor, Plan, sectionsUnder, bodyUnder, Wrote};
+use key::Kind;
+use put_item::Sizes;
+use field_record::FileOffset;
+use answer::Refusal;
+use answer::Written;
+use segment::extent::Extent;
+use segment::footer::Footer;
+use segment::header;
+use segment::header::Header;
+use segment::header::Heading;
+use segment::record::Record;
+
+// A number of bytes with the zeros that it lacks to a multiple of 8.
+fn padded(n: u64) -> u64
+    requires { ⌜ n ≤ 1152921504606846976 ⌝ }
+    ensures { λ r. ⌜ r ≡ n + lacking n ⌝ }
+{
+    n + (8 - n % 8) % 8
+}
+
+// The header over so many bloom bytes and records that come to some sizes.
+fn header_for(t: Heading, bloom: u64, count: u64, s: Sizes) -> Header
+    requires { ⌜ Moderate bloom count s ⌝ }
+    ensures { λ r. ⌜ r ≡ headerFor t bloom count s ⌝ }
+{
+    let records = Header::LONG + bloom;
+    let digests = records + Record::LONG * count;
+    let size = padded(s.digests);
+    let place = header::bloom_place(bloom);
+    Header {
+        magic: Header::MAGIC,
+        version: Header::VERSION,
+        shard: t.shard,
+        header_size: Header::STATED,
+        snapshot_min: t.snapshot_min,
+        snapshot_max: t.snapshot_max,
+        record_count: count,
+        records_offset: FileOffset(records),
+        bloom_offset: FileOffset(place),
+        bloom_size: bloom,
+        digests_offset: FileOffset(digests),
+        digests_size: size,
+        extents_offset: FileOffset(digests + size),
+        extent_count: s.extents,
+        domain: t.domain,
+        visibility: s.visibility as u8,
+        federation: 0,
+        reserved: 0,
+        flags: 0,
+    }
+}
+
+// Records, digests and extents, each lent its own stretch of the output: from r, from d and from x on.
+fn put_sections(
+    h: Header,
+    used: usize,
+    kind: Kind,
+    bytes: &[u8],
+    list: &[u64],
+    extents: &[u64],
+    numbers: &[u16],
+    out: &mut [u8],
+)
+    requires { ⌜ Lines kind (now bytes) (now list) (now extents) (now numbers) ⌝ }
+    requires { ⌜ Plan h (itemRows kind (now bytes) (now list) (now extents) (now numbers)) used (length (now out)) ⌝ }
+    ensures { λ _. ⌜ now (out .exit) ≡ put (now (out .entry)) (recordsOffset h) (sectionsUnder h (itemRows kind (now (bytes .entry)) (now (list .entry)) (now (extents .entry)) (now (numbers .entry)))) ⌝ }
+{
+    let r = h.records_offset.0 as usize;
+    let d = h.digests_offset.0 as usize;
+    let x = h.extents_offset.0 as usize;
+    let end = out.len() - Footer::SIZE;
+    put_sections::put_records(h, kind, bytes, list, extents, numbers, &mut out[r..d]);
+    put_sections::put_digest_section(kind, bytes, list, numbers, used, &mut out[d..x]);
+    put_sections::put_extents(kind, bytes, list, extents, numbers, &mut out[x..end]);
+}
+
+// Everything before the footer.
+fn put_body(
+    h: Header,
+    bloom: &[u8],
+    used: usize,
+    kind: Kind,
+    bytes: &[u8],
+    list: &[u64],
+    extents: &[u64],
+    numbers: &[u16],
+    out: &mut [u8],
+)
+    requires { ⌜ Lines kind (now bytes) (now list) (now extents) (now numbers) ⌝ }
+    requires { ⌜ Plan h (itemRows kind (now bytes) (now list) (now extents) (now numbers)) used (length (now out)) ⌝ }
+    requires { ⌜ recordsOffset h ≡ 112 + length (now bloom) ⌝ }
+    ensures { λ _. ⌜ now (out .exit) ≡ put (now (out .entry)) 0 (bodyUnder h (now (bloom .entry)) (itemRows kind (now (bytes .entry)) (now (list .entry)) (now (extents .entry)) (now (numbers .entry)))) ⌝ }
+{
+    put_fields::put_header(h, out);
+    put_sections::copy_bytes(bloom, Header::SIZE, out);
+    put_sections(h, used, kind, bytes, list, extents, numbers, out);
+}
+
+// The whole form, into an output that is as long as it.
+fn put_form(
+    t: Heading,
+    h: Header,
+    bloom: &[u8],
+    used: usize,
+    kind: Kind,
+    bytes: &[u8],
+    list: &[u64],
+    extents: &[u64],
+    numbers: &[u16],
+    out: &mut [u8],
+)
+    requires { ⌜ Lines kind (now bytes) (now list) (now extents) (now numbers) ⌝ }
+    requires { ⌜ Plan h (itemRows kind (now bytes) (now list) (now extents) (now numbers)) used (length (now out)) ⌝ }
+    requires { ⌜ h ≡ formHeader v3 t (length (now bloom)) (itemRows kind (now bytes) (now list) (now extents) (now numbers)) ⌝ }
+    ensures { λ _. ⌜ now (out .exit) ≡ formOf v3 t (now (bloom .entry)) (itemRows kind (now (bytes .entry)) (now (list .entry)) (now (extents .entry)) (now (numbers .entry))) ⌝ }
+{
+    put_body(h, bloom, used, kind, bytes, list, extents, numbers, out);
+    let body = out.len() - Footer::SIZE;
+    let checksum = crc64::crc64_plain(&out[..body]);
+    let f = Footer {
+        checksum,
+        seal_snapshot: t.seal_snapshot,
+        seal_time: t.seal_time,
+    };
+    put_fields::put_footer(f, body, out);
+}
+
+// The form of the items in the order of their numbers, if it keeps to the limit and fits; else the output is left alone.
+// Bloom bytes that pass the limit by themselves are refused first, so that no sum below overflows.
+pub fn emit(
+    t: Heading,
+    bloom: &[u8],
+    kind: Kind,
+    bytes: &[u8],
+    list: &[u64],
+    extents: &[u64],
+    numbers: &[u16],
+    out: &mut [u8],
+) -> Written
+    requires { ⌜ Lines kind (now bytes) (now list) (now extents) (now numbers) ⌝ }
+    requires { ⌜ length (now numbers) ≤ 65536 ⌝ }
+    ensures { λ r. ⌜ Wrote (formOf v3 t (now (bloom .entry)) (itemRows kind (now (bytes .entry)) (now (list .entry)) (now (extents .entry)) (now (numbers .entry)))) (now (out .entry)) (now (out .exit)) r ⌝ }
+{
+    let size = bloom.len() as u64;
+    if segment::LIMIT < size {
+        return Written::Refused(Refusal::Large);
+    }
+    let s = put_item::measure(kind, bytes, list, numbers);
+    let h = header_for(t, size, numbers.len() as u64, s);
+    let n = h.extents_offset.0 + Extent::LONG * h.extent_count + Footer::LONG;
+    if segment::LIMIT < n {
+        return Written::Refused(Refusal::Large);
+    }
+    if (out.len() as u64) < n {
+        return Written::Refused(Refusal::Room);
+    }
+    let end = n as usize;
+    put_form(
+        t,
+        h,
+        bloom,
+        s.digests as usize,
+        kind,
+        bytes,
+        list,
+        extents,
+        numbers,
+        &mut out[..end],
+    );
+    Written::Done(n)
+}

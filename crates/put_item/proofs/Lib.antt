@@ -1,0 +1,3 @@
+pub mod ItemColumns
+pub mod Measuring
+pub mod ItemRows

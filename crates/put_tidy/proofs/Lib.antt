@@ -1,0 +1,2 @@
+pub mod SortedItems
+pub mod Left

@@ -1,4 +1,0 @@
-pub mod Checked
-pub mod Fills
-pub mod Whole
-pub mod Starts

@@ -1,0 +1,156 @@
+-- Each refusal of check is given exactly when its rule is broken and every rule before it in the order is kept. One way by what check answers there;
+-- the other by a walk through the rules, which comes to the end or to a refusal that is given so.
+-- Assumes nothing.
+use Prim.Native.Nat.{ℕ}
+use mathlib.Core.Path.{_≡_, refl, _∙_}
+use mathlib.Core.Bool.{Bool, true, false}
+use mathlib.Core.Logic.{_↔_, by-cases}
+use mathlib.Core.List.{List}
+use native.Mathlib.Decide.{ℕ-discrete}
+use Rattle.answer.specs.declared.Refusal.{Refusal}
+use Rattle.answer.specs.declared.Refusal.the-variants.{
+  Size,
+  Magic,
+  Version,
+  Header as HeaderWrong,
+  Layout,
+  Checksum,
+  Record as RecordWrong,
+  Digest,
+  Extents,
+  Total,
+  Visibility,
+  Duplicate,
+  Table,
+}
+use Rattle.answer.specs.declared.Verdict.{Verdict}
+use Rattle.answer.specs.declared.Verdict.the-variants.{Accepted, Refused}
+use Rattle.answer.specs.Rules.{firstOver}
+use Rattle.answer.specs.Answers.{refused, checkAnswer}
+use Rattle.answer.proofs.Order.{never-both, Lowest, by-run}
+use Rattle.answer.proofs.Settled.{check-settled}
+use Rattle.segment.specs.Format.{v3, headerOf, recordCount}
+use Rattle.table.specs.Table.{goodTable}
+use Rattle.segment.specs.Keys.{freshKey}
+use Rattle.segment.specs.Check.{recordVerdict, keyNo, checked, checkOf}
+use Rattle.segment.specs.Meets.{MarksMeet, DigestMeets, RecordMeets}
+use Rattle.key.proofs.Duplicates.{refused-twice}
+use Rattle.theorem_demands.specs.Refusals.{
+  MagicMeets,
+  VersionMeets,
+  recordIn,
+  UpToSize,
+  UpToHeader,
+  UpToLayout,
+  UpToChecksum,
+  UpToRecords,
+  UpToVisibility,
+  Reached,
+  Given,
+}
+use Rattle.check_book.proofs.OneRefusal.{decided}
+use Rattle.check_book.proofs.TablesHeader.{size-book, header-book, layout-book, checksum-book}
+use Rattle.check_book.proofs.TablesRecord.{marks-book, digest-book, extents-book, record-book}
+use Rattle.check_book.proofs.TablesVisibility.{visibility-book}
+use Rattle.theorem_demands.proofs.InNumbers.{in-numbers}
+use Rattle.theorem_demands.proofs.Stops.{at-keys, given-refused}
+
+-- where the walk comes to
+data Judged (pairs s : List ℕ) : Type 0 where
+  accepts : checked pairs s ≡ Accepted → Judged pairs s
+  gives : (r : Refusal) → Given pairs s r → Judged pairs s
+
+-- ---- the walk, from its last step to its first
+
+module _ (pairs s : List ℕ) where
+  from-keys : UpToVisibility pairs s → Judged pairs s
+  from-keys u = go (firstOver (recordCount (headerOf s)) (freshKey (keyNo v3 s (headerOf s)))) refl
+    where
+      go : (v : Verdict) → firstOver (recordCount (headerOf s)) (freshKey (keyNo v3 s (headerOf s))) ≡ v → Judged pairs s
+      go Accepted e = accepts (at-keys pairs s u ∙ e)
+      go (Refused r) e =
+          let d = refused-twice (keyNo v3 s (headerOf s)) (recordCount (headerOf s)) r e in
+          gives (Duplicate (d .0)) (u, d .2)
+
+  from-visibility : UpToRecords pairs s → Judged pairs s
+  from-visibility u =
+      by-cases (decided (visibility-book v3 s (headerOf s)))
+      (λ m. from-keys (record { before = u; visibility = m }))
+      (λ n. gives Visibility (u, n))
+
+  -- a record whose rules are not all kept
+  module _ (k : ℕ) (u : Reached pairs s k) (n : ¬ RecordMeets v3 pairs s (headerOf s) (recordIn s k)) where
+    from-extents : MarksMeet (headerOf s) (recordIn s k) → DigestMeets pairs (headerOf s) (recordIn s k) → Judged pairs s
+    from-extents marks digest =
+        by-cases (decided (extents-book (headerOf s) (recordIn s k) k))
+        (λ m. gives (Total k) (u, marks, digest, m, λ total. n (record { marks = marks; digest = digest; extents = m; total = total })))
+        (λ b. gives (Extents k) (u, marks, digest, b))
+
+    from-digest : MarksMeet (headerOf s) (recordIn s k) → Judged pairs s
+    from-digest marks =
+        by-cases (decided (digest-book pairs (headerOf s) (recordIn s k) k)) (from-extents marks) (λ b. gives (Digest k) (u, marks, b))
+
+    from-marks : Judged pairs s
+    from-marks = by-cases (decided (marks-book (headerOf s) (recordIn s k) k)) from-digest (λ b. gives (RecordWrong k) (u, b))
+
+  first-bad : UpToChecksum pairs s → (r : Refusal) → Lowest (recordCount (headerOf s)) (recordVerdict v3 pairs s (headerOf s)) r → Judged pairs s
+  first-bad u r l =
+      let book = record-book v3 pairs s (headerOf s) in
+      let reached : Reached pairs s (l .at) = record { before = u; within = l .within; earlier = λ j i. book j .0 (l .before j i) } in
+      from-marks (l .at) reached (λ m. never-both (book (l .at) .1 m) (l .here))
+
+  from-records : UpToChecksum pairs s → Judged pairs s
+  from-records u =
+      by-run (recordCount (headerOf s)) (recordVerdict v3 pairs s (headerOf s))
+      (λ all. from-visibility (record { before = u; each = λ j i. record-book v3 pairs s (headerOf s) j .0 (all j i) }))
+      (first-bad u)
+
+  from-checksum : UpToLayout pairs s → Judged pairs s
+  from-checksum u =
+      by-cases (decided (checksum-book s)) (λ m. from-records (record { before = u; checksum = m })) (λ n. gives Checksum (u, n))
+
+  from-layout : UpToHeader pairs s → Judged pairs s
+  from-layout u =
+      by-cases (decided (layout-book s (headerOf s)))
+      (λ m. from-checksum (record { before = u; layout = m }))
+      (λ n. gives Layout (u, n))
+
+  from-header : UpToSize pairs s → MagicMeets s → VersionMeets s → Judged pairs s
+  from-header u magic version =
+      by-cases (decided (header-book v3 (headerOf s) magic version))
+      (λ m. from-layout (record { before = u; magic = magic; version = version; header = m }))
+      (λ n. gives HeaderWrong (u, magic, version, n))
+
+  from-version : UpToSize pairs s → MagicMeets s → Judged pairs s
+  from-version u magic =
+      by-cases (ℕ-discrete (headerOf s .version) (v3 .version)) (from-header u magic) (λ n. gives Version (u, magic, n))
+
+  from-magic : UpToSize pairs s → Judged pairs s
+  from-magic u = by-cases (ℕ-discrete (headerOf s .magic) (v3 .magic)) (from-version u) (λ n. gives Magic (u, n))
+
+  from-size : goodTable pairs ≡ true → Judged pairs s
+  from-size g = by-cases (decided (size-book s)) (λ m. from-magic (record { table = g; size = m })) (λ n. gives Size (g, n))
+
+  judged : Judged pairs s
+  judged = go (goodTable pairs) refl
+    where
+      go : (b : Bool) → goodTable pairs ≡ b → Judged pairs s
+      go true e = from-size e
+      go false e = gives Table e
+
+  -- ---- the theorem
+
+  settled : (r : Refusal) → checked pairs s ≡ Refused r → Judged pairs s → Given pairs s r
+  settled r e (accepts a) = absurd (never-both a e)
+  settled r e (gives q g) =
+      let f = given-refused pairs s q g in
+      let same : q ≡ r = cc in
+      rw same at g
+
+pub refused-iff : (pairs s : List ℕ) (r : Refusal) → (checked pairs s ≡ Refused r) ↔ Given pairs s r
+refused-iff pairs s r = (λ e. settled pairs s r e (judged pairs s), given-refused pairs s r)
+
+-- in document 01's numbers
+pub refused-numbers : (pairs s : List ℕ) (r : Refusal) → (checkOf pairs s ≡ refused r) ↔ Given pairs s r
+unfolding checkOf
+refused-numbers pairs s = in-numbers checkAnswer Refused check-settled (λ r. refl) (checked pairs s) (refused-iff pairs s)

@@ -1,0 +1,127 @@
+-- Document 01, "What comes back": each refusal of check is given exactly when its rule is broken, if none before it in the order applies. The order is
+-- 14, 1 to 6, then records by number and within one 7 to 10, then 11, 12.
+--   UpTo..      every rule is kept, in that order, up to and with the one named
+--   Given       a refusal's rule is broken, and all that comes before it is kept
+-- Assumes nothing: these are definitions.
+use Prim.Native.Nat.{ℕ, _<_}
+use mathlib.Core.Path.{_≡_}
+use mathlib.Core.Bool.{true, false}
+use mathlib.Core.List.{List}
+use Rattle.answer.specs.declared.Refusal.{Refusal}
+use Rattle.answer.specs.declared.Refusal.the-variants.{
+  Size,
+  Magic,
+  Version,
+  Header as HeaderWrong,
+  Layout,
+  Checksum,
+  Record as RecordWrong,
+  Digest,
+  Extents,
+  Total,
+  Visibility,
+  Duplicate,
+  Room,
+  Table,
+  List as ListEnd,
+  Large,
+  Key,
+}
+use Rattle.segment.specs.declared.record.Record.{Record}
+use Rattle.segment.specs.Format.{v3, headerOf, recordCount, recordNo}
+use Rattle.table.specs.Table.{goodTable}
+use Rattle.segment.specs.Keys.{FirstTwice}
+use Rattle.segment.specs.Check.{keyNo}
+use Rattle.segment.specs.Meets.{
+  SizeMeets,
+  HeaderMeets,
+  LayoutMeets,
+  ChecksumMeets,
+  MarksMeet,
+  DigestMeets,
+  ExtentsMeet,
+  TotalMeets,
+  RecordMeets,
+  VisibilityMeets,
+}
+
+-- ---- the rules that the rule book has no name for: 2 and 3
+
+abbrev pub MagicMeets : List ℕ → Type 0
+MagicMeets s = headerOf s .magic ≡ v3 .magic
+
+abbrev pub VersionMeets : List ℕ → Type 0
+VersionMeets s = headerOf s .version ≡ v3 .version
+
+-- record k of a segment
+abbrev pub recordIn : List ℕ → ℕ → Record
+recordIn s k = recordNo v3 s (headerOf s) k
+
+-- ---- what is kept before a rule's turn comes
+
+-- 14 and 1
+pub record UpToSize (pairs s : List ℕ) : Type 0 where
+  pub table : goodTable pairs ≡ true
+  pub size : SizeMeets s
+
+-- and 2, 3, 4
+pub record UpToHeader (pairs s : List ℕ) : Type 0 where
+  pub before : UpToSize pairs s
+  pub magic : MagicMeets s
+  pub version : VersionMeets s
+  pub header : HeaderMeets (headerOf s)
+
+-- and 5
+pub record UpToLayout (pairs s : List ℕ) : Type 0 where
+  pub before : UpToHeader pairs s
+  pub layout : LayoutMeets v3 s (headerOf s)
+
+-- and 6
+pub record UpToChecksum (pairs s : List ℕ) : Type 0 where
+  pub before : UpToLayout pairs s
+  pub checksum : ChecksumMeets s
+
+-- and 7 to 10 of every record
+pub record UpToRecords (pairs s : List ℕ) : Type 0 where
+  pub before : UpToChecksum pairs s
+  pub each : (j : ℕ) → j < recordCount (headerOf s) → RecordMeets v3 pairs s (headerOf s) (recordIn s j)
+
+-- and 11
+pub record UpToVisibility (pairs s : List ℕ) : Type 0 where
+  pub before : UpToRecords pairs s
+  pub visibility : VisibilityMeets v3 s (headerOf s)
+
+-- record k's turn comes: 7 to 10 of every record before it
+pub record Reached (pairs s : List ℕ) (k : ℕ) : Type 0 where
+  pub before : UpToChecksum pairs s
+  pub within : k < recordCount (headerOf s)
+  pub earlier : (j : ℕ) → j < k → RecordMeets v3 pairs s (headerOf s) (recordIn s j)
+
+-- ---- when each is given
+
+abbrev pub Given : List ℕ → List ℕ → Refusal → Type 0
+Given pairs s Table = goodTable pairs ≡ false
+Given pairs s Size = (goodTable pairs ≡ true) × ¬ SizeMeets s
+Given pairs s Magic = UpToSize pairs s × ¬ MagicMeets s
+Given pairs s Version = UpToSize pairs s × MagicMeets s × ¬ VersionMeets s
+Given pairs s HeaderWrong = UpToSize pairs s × MagicMeets s × VersionMeets s × ¬ HeaderMeets (headerOf s)
+Given pairs s Layout = UpToHeader pairs s × ¬ LayoutMeets v3 s (headerOf s)
+Given pairs s Checksum = UpToLayout pairs s × ¬ ChecksumMeets s
+Given pairs s (RecordWrong k) = Reached pairs s k × ¬ MarksMeet (headerOf s) (recordIn s k)
+Given pairs s (Digest k) =
+    Reached pairs s k × MarksMeet (headerOf s) (recordIn s k) × ¬ DigestMeets pairs (headerOf s) (recordIn s k)
+Given pairs s (Extents k) =
+    Reached pairs s k × MarksMeet (headerOf s) (recordIn s k) × DigestMeets pairs (headerOf s) (recordIn s k)
+    × ¬ ExtentsMeet (headerOf s) (recordIn s k)
+Given pairs s (Total k) =
+    Reached pairs s k × MarksMeet (headerOf s) (recordIn s k) × DigestMeets pairs (headerOf s) (recordIn s k)
+    × ExtentsMeet (headerOf s) (recordIn s k)
+    × ¬ TotalMeets v3 s (recordIn s k)
+Given pairs s Visibility = UpToRecords pairs s × ¬ VisibilityMeets v3 s (headerOf s)
+-- at the lowest record whose key stands earlier
+Given pairs s (Duplicate k) = UpToVisibility pairs s × FirstTwice (keyNo v3 s (headerOf s)) (recordCount (headerOf s)) k
+-- the refusals of write, look up and tidy alone
+Given pairs s Room = ⊥
+Given pairs s (ListEnd k) = ⊥
+Given pairs s Large = ⊥
+Given pairs s Key = ⊥

@@ -1,0 +1,2 @@
+pub mod RequestBook
+pub mod RequestOrder

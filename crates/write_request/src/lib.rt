@@ -1,0 +1,91 @@
+// The check of what write is lent, between the table and the size: 16 for the entry count, 5 for the bloom bytes, the entries
+// by number, and 12.
+ghost use mathlib.Core.Path.{_≡_};
+ghost use Rattle.answer.specs.Rules.{firstOver};
+ghost use Rattle.segment.specs.Format.{v3};
+ghost use Rattle.segment.specs.Write.{entryCount, entryRules, entryVerdict, requestRules};
+use key::Kind;
+use write_entry::reach::lists_kept;
+use write_entry::total::EXTENT;
+use write_entry::total::total_kept;
+use answer::Refusal;
+use answer::Verdict;
+use segment::entry::Entry;
+
+// One entry, number k.
+fn check_entry(pairs: &[u64], digests: &[u8], extents: &[u64], e: Entry, k: usize) -> Verdict
+    ensures { λ v. ⌜ v ≡ entryRules v3 (now (pairs .entry)) (now (digests .entry)) (now (extents .entry)) e k ⌝ }
+{
+    let bytes = digests.len() as u64;
+    let count = (extents.len() / EXTENT) as u64;
+    if !write_entry::marks_kept(e.visibility, e.imported, e.gone, e.source) {
+        return Verdict::Refused(Refusal::Record(k as u64));
+    }
+    if !lists_kept(
+        e.digest_start,
+        e.digest_length,
+        bytes,
+        e.first_extent,
+        e.extent_count,
+        count,
+    ) {
+        return Verdict::Refused(Refusal::List(k as u64));
+    }
+    if !table::allows(pairs, e.hash_id, e.digest_length) {
+        return Verdict::Refused(Refusal::Digest(k as u64));
+    }
+    if !write_entry::places_kept(e.gone, e.first_extent, e.extent_count) {
+        return Verdict::Refused(Refusal::Extents(k as u64));
+    }
+    if !total_kept(extents, e.first_extent, e.extent_count) {
+        return Verdict::Refused(Refusal::Total(k as u64));
+    }
+    Verdict::Accepted
+}
+
+// Every whole entry of the list.
+fn check_entries(pairs: &[u64], entries: &[u64], digests: &[u8], extents: &[u64]) -> Verdict
+    ensures { λ r. ⌜ r ≡ firstOver (entryCount (now (entries .entry))) (entryVerdict v3 (now (pairs .entry)) (now (entries .entry)) (now (digests .entry)) (now (extents .entry))) ⌝ }
+{
+    let count = entries.len() / Entry::SIZE;
+    let mut k = 0;
+    while k < count {
+        match check_entry(pairs, digests, extents, Entry::at(entries, k), k) {
+            Verdict::Refused(x) => {
+                return Verdict::Refused(x);
+            }
+            Verdict::Accepted => {}
+        }
+        k += 1;
+    }
+    Verdict::Accepted
+}
+
+// `bloom` is the number of bloom bytes; which they are does not matter here.
+pub fn check_request(
+    pairs: &[u64],
+    bloom: usize,
+    entries: &[u64],
+    digests: &[u8],
+    extents: &[u64],
+) -> Verdict
+    ensures { λ r. ⌜ r ≡ requestRules v3 (now (pairs .entry)) bloom (now (entries .entry)) (now (digests .entry)) (now (extents .entry)) ⌝ }
+{
+    let n = entries.len() / Entry::SIZE;
+    if 65536 < n {
+        return Verdict::Refused(Refusal::Large);
+    }
+    if bloom % 8 != 0 {
+        return Verdict::Refused(Refusal::Layout);
+    }
+    match check_entries(pairs, entries, digests, extents) {
+        Verdict::Refused(x) => {
+            return Verdict::Refused(x);
+        }
+        Verdict::Accepted => {}
+    }
+    if key_ascending::keys_climb(Kind::Entries, digests, entries, n) {
+        return Verdict::Accepted;
+    }
+    key_duplicate::check_keys(Kind::Entries, digests, entries, n)
+}
