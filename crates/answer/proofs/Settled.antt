@@ -8,7 +8,8 @@ use mathlib.Core.List.{List, [], _∷_}
 use lib.Dec.{eqb}
 use lib.ListN.{length, getD}
 use Rattle.answer.specs.declared.Refusal.{Refusal}
-use Rattle.answer.specs.declared.Refusal.the-variants.{
+use Rattle.answer.specs.declared.Rule.{Rule}
+use Rattle.answer.specs.declared.Rule.the-variants.{
   Size,
   Magic,
   Version,
@@ -35,59 +36,52 @@ use Rattle.answer.specs.declared.Found.{Found}
 use Rattle.answer.specs.declared.Found.the-variants.{Absent, Gone, Present, Refused as FoundRefused}
 use Rattle.answer.specs.declared.Written.{Written}
 use Rattle.answer.specs.declared.Written.the-variants.{Done, Refused as WrittenRefused}
-use Rattle.answer.specs.Answers.{numberOf, placeOf, Answer, refused, checkAnswer, foundAnswer, writtenAnswer}
+use Rattle.answer.specs.Answers.{ruleNumber, refusal, numberOf, placeOf, Answer, refused, checkAnswer, foundAnswer, writtenAnswer}
 
--- the refusals by number, from 0, at which none stands
-byNumber : ℕ → List Refusal
-byNumber p =
-    Size ∷ Size ∷ Magic ∷ Version ∷ Header ∷ Layout ∷ Checksum ∷ Record p ∷ Digest p ∷ Extents p ∷ Total p ∷ Visibility ∷ Duplicate p ∷ Room
-    ∷ Table ∷ ListEnd p ∷ Large ∷ Key ∷ []
+-- the rules, in no order; and the first of some rules that has a number
+rules : List Rule
+rules =
+    Size ∷ Magic ∷ Version ∷ Header ∷ Layout ∷ Checksum ∷ Record ∷ Digest ∷ Extents ∷ Total ∷ Visibility ∷ Duplicate
+    ∷ Room ∷ Table ∷ ListEnd ∷ Large ∷ Key ∷ []
+
+numbered : List Rule → ℕ → Rule
+numbered [] n = Size
+numbered (r ∷ rs) n = cond (eqb (ruleNumber r) n) r (numbered rs n)
+
+-- a rule's number is its own, and none is that of an answer
+ruleNumber-one : (r : Rule) → (numbered rules (ruleNumber r) ≡ r) × (eqb (ruleNumber r) 0 ≡ false)
+unfolding rules numbered
+ruleNumber-one Size = (refl, refl)
+ruleNumber-one Magic = (refl, refl)
+ruleNumber-one Version = (refl, refl)
+ruleNumber-one Header = (refl, refl)
+ruleNumber-one Layout = (refl, refl)
+ruleNumber-one Checksum = (refl, refl)
+ruleNumber-one Record = (refl, refl)
+ruleNumber-one Digest = (refl, refl)
+ruleNumber-one Extents = (refl, refl)
+ruleNumber-one Total = (refl, refl)
+ruleNumber-one Visibility = (refl, refl)
+ruleNumber-one Duplicate = (refl, refl)
+ruleNumber-one Room = (refl, refl)
+ruleNumber-one Table = (refl, refl)
+ruleNumber-one ListEnd = (refl, refl)
+ruleNumber-one Large = (refl, refl)
+ruleNumber-one Key = (refl, refl)
 
 pub refusalOf : ℕ → ℕ → Refusal
-refusalOf n p = getD (byNumber p) n Size
+refusalOf n p = refusal (numbered rules n) p
 
 refusal-back : (r : Refusal) → refusalOf (numberOf r) (placeOf r) ≡ r
-unfolding refusalOf byNumber
-refusal-back Size = refl
-refusal-back Magic = refl
-refusal-back Version = refl
-refusal-back Header = refl
-refusal-back Layout = refl
-refusal-back Checksum = refl
-refusal-back (Record k) = refl
-refusal-back (Digest k) = refl
-refusal-back (Extents k) = refl
-refusal-back (Total k) = refl
-refusal-back Visibility = refl
-refusal-back (Duplicate k) = refl
-refusal-back Room = refl
-refusal-back Table = refl
-refusal-back (ListEnd k) = refl
-refusal-back Large = refl
-refusal-back Key = refl
+unfolding refusalOf
+refusal-back r = ap (λ (q : Rule). refusal q (r .1)) (ruleNumber-one (r .0) .0)
 
 pub refusal-settled : (q r : Refusal) → numberOf q ≡ numberOf r → placeOf q ≡ placeOf r → q ≡ r
 refusal-settled q r e f = sym (refusal-back q) ∙ ap₂ refusalOf e f ∙ refusal-back r
 
 -- no refusal has the number of an answer
 not-answered : (r : Refusal) → eqb (numberOf r) 0 ≡ false
-not-answered Size = refl
-not-answered Magic = refl
-not-answered Version = refl
-not-answered Header = refl
-not-answered Layout = refl
-not-answered Checksum = refl
-not-answered (Record k) = refl
-not-answered (Digest k) = refl
-not-answered (Extents k) = refl
-not-answered (Total k) = refl
-not-answered Visibility = refl
-not-answered (Duplicate k) = refl
-not-answered Room = refl
-not-answered Table = refl
-not-answered (ListEnd k) = refl
-not-answered Large = refl
-not-answered Key = refl
+not-answered r = ruleNumber-one (r .0) .1
 
 -- a service's answer from its numbers: where the number is 0, what the values make of it
 unfoldable pub taken : {A : Type 0} → (Refusal → A) → (List ℕ → A) → Answer → A

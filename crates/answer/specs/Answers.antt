@@ -1,4 +1,6 @@
 -- Document 01's table of refusals, "What comes back": the number and the place of each, and what each service's answer says in numbers.
+--   ruleNumber             the number of each rule
+--   refusal                a rule that is broken at a place
 --   numberOf, placeOf      of a refusal
 --   Answer                 what a call gives back: 0 or the refusal's number, its place, and the values of an answer
 --   checkAnswer, foundAnswer, writtenAnswer   of each case of what check, look up, and write and tidy answer
@@ -6,7 +8,8 @@
 use Prim.Native.Nat.{ℕ}
 use mathlib.Core.List.{List, [], _∷_, _++_}
 use Rattle.answer.specs.declared.Refusal.{Refusal}
-use Rattle.answer.specs.declared.Refusal.the-variants.{
+use Rattle.answer.specs.declared.Rule.{Rule}
+use Rattle.answer.specs.declared.Rule.the-variants.{
   Size,
   Magic,
   Version,
@@ -34,44 +37,34 @@ use Rattle.answer.specs.declared.Found.the-variants.{Absent, Gone, Prese
 use Rattle.answer.specs.declared.Written.{Written}
 use Rattle.answer.specs.declared.Written.the-variants.{Done, Refused as WrittenRefused}
 
-abbrev pub numberOf : Refusal → ℕ
-numberOf Size = 1
-numberOf Magic = 2
-numberOf Version = 3
-numberOf Header = 4
-numberOf Layout = 5
-numberOf Checksum = 6
-numberOf (Record k) = 7
-numberOf (Digest k) = 8
-numberOf (Extents k) = 9
-numberOf (Total k) = 10
-numberOf Visibility = 11
-numberOf (Duplicate k) = 12
-numberOf Room = 13
-numberOf Table = 14
-numberOf (ListEnd k) = 15
-numberOf Large = 16
-numberOf Key = 17
+abbrev pub ruleNumber : Rule → ℕ
+ruleNumber Size = 1
+ruleNumber Magic = 2
+ruleNumber Version = 3
+ruleNumber Header = 4
+ruleNumber Layout = 5
+ruleNumber Checksum = 6
+ruleNumber Record = 7
+ruleNumber Digest = 8
+ruleNumber Extents = 9
+ruleNumber Total = 10
+ruleNumber Visibility = 11
+ruleNumber Duplicate = 12
+ruleNumber Room = 13
+ruleNumber Table = 14
+ruleNumber ListEnd = 15
+ruleNumber Large = 16
+ruleNumber Key = 17
 
--- the record's number, from 0, for 7 to 10, 12 and 15, otherwise 0
+-- a rule that is broken at a place. Which place is said where the rule stands: a record's for 7 to 10, 12 and 15, otherwise 0
+abbrev pub refusal : Rule → ℕ → Refusal
+refusal rule place = record { 0 = rule; 1 = place }
+
+abbrev pub numberOf : Refusal → ℕ
+numberOf r = ruleNumber (r .0)
+
 abbrev pub placeOf : Refusal → ℕ
-placeOf Size = 0
-placeOf Magic = 0
-placeOf Version = 0
-placeOf Header = 0
-placeOf Layout = 0
-placeOf Checksum = 0
-placeOf (Record k) = k
-placeOf (Digest k) = k
-placeOf (Extents k) = k
-placeOf (Total k) = k
-placeOf Visibility = 0
-placeOf (Duplicate k) = k
-placeOf Room = 0
-placeOf Table = 0
-placeOf (ListEnd k) = k
-placeOf Large = 0
-placeOf Key = 0
+placeOf r = r .1
 
 pub record Answer : Type 0 where
   pub number : ℕ

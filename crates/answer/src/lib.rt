@@ -1,25 +1,28 @@
-// Document 01's refusals, and what check, look up, write and tidy answer. A refusal carries what its place is made of;
-// `answer_number::number` and `answer_number::place` give document 01's numbers for it.
+// The refusals, and what check, look up, write and tidy answer. `answer_number::number` gives the number of a refusal's rule.
 
-pub enum Refusal {
+// The rules that are refused by, each with a number of its own.
+pub enum Rule {
     Size,
     Magic,
     Version,
     Header,
     Layout,
     Checksum,
-    Record(u64),
-    Digest(u64),
-    Extents(u64),
-    Total(u64),
+    Record,
+    Digest,
+    Extents,
+    Total,
     Visibility,
-    Duplicate(u64),
+    Duplicate,
     Room,
     Table,
-    List(u64),
+    List,
     Large,
     Key,
 }
+
+// The rule that is broken, and the place.
+pub struct Refusal(pub Rule, pub u64);
 
 // What check answers.
 pub enum Verdict {

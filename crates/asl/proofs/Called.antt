@@ -5,14 +5,14 @@ use mathlib.Core.Path.{_≡_, sym, ap, _∙_}
 use mathlib.Core.List.{List}
 use lib.ListN.{take}
 use Rattle.answer.specs.declared.Refusal.{Refusal}
-use Rattle.answer.specs.declared.Refusal.the-variants.{Table as TableWrong}
+use Rattle.answer.specs.declared.Rule.the-variants.{Table as TableWrong}
 use Rattle.answer.specs.declared.Verdict.{Verdict}
 use Rattle.answer.specs.declared.Verdict.the-variants.{Accepted, Refused}
 use Rattle.answer.specs.declared.Found.{Found}
 use Rattle.answer.specs.declared.Found.the-variants.{Refused as NotFound}
 use Rattle.answer.specs.declared.Written.{Written}
 use Rattle.answer.specs.declared.Written.the-variants.{Refused as NotWritten}
-use Rattle.answer.specs.Answers.{numberOf, placeOf, checkAnswer, foundAnswer, writtenAnswer}
+use Rattle.answer.specs.Answers.{refusal, numberOf, placeOf, checkAnswer, foundAnswer, writtenAnswer}
 use Rattle.answer.proofs.Settled.{found-settled}
 use Rattle.segment.specs.Check.{checkOf}
 use Rattle.segment.specs.LookUp.{lookedUp, lookUpOf}
@@ -34,7 +34,7 @@ module _ (bytes table : List ℕ) (count : ℕ) (l : Copied bytes table count) w
   -- check
   module _ (s : List ℕ) (v : Verdict) (c : checkAnswer v ≡ checkOf part s) where
     checked-alike : checkAnswer v ≡ checkOf (tableIn bytes) s
-    checked-alike = c ∙ alike-said (λ p. checkOf p s) (checkAnswer (Refused TableWrong)) (λ p. check-bad p s) l
+    checked-alike = c ∙ alike-said (λ p. checkOf p s) (checkAnswer (Refused (refusal TableWrong 0))) (λ p. check-bad p s) l
 
     pub told-accepted : v ≡ Accepted → told 0 0 ≡ checkOf (tableIn bytes) s
     told-accepted e = sym (ap checkAnswer e) ∙ checked-alike
@@ -48,7 +48,7 @@ module _ (bytes table : List ℕ) (count : ℕ) (l : Copied bytes table count) w
     unfolding lookUpOf
     found-alike =
         found-settled f (lookedUp (tableIn bytes) s hash digest)
-        (c ∙ alike-said (λ p. lookUpOf p s hash digest) (foundAnswer (NotFound TableWrong)) (λ p. look-up-bad p s hash digest) l)
+        (c ∙ alike-said (λ p. lookUpOf p s hash digest) (foundAnswer (NotFound (refusal TableWrong 0))) (λ p. look-up-bad p s hash digest) l)
 
     pub looked-up : (a : Reply) (n p : ℕ) (found after : List ℕ) → a ≡ replyOf f → lookedUpBy n p after ≡ replyLeft a found
         → lookedUpBy n p after ≡ replyLeft (replyOf (lookedUp (tableIn bytes) s hash digest)) found
@@ -64,10 +64,10 @@ module _ (bytes table : List ℕ) (count : ℕ) (l : Copied bytes table count) w
       → (n ≡ writtenAnswer w .number) × (p ≡ writtenAnswer w .place) × (m ≡ sizeAfter (writtenAnswer w .values) before)
       → sealedBy n p m after ≡ sealedAs (tidyOf (tableIn bytes) s out) before
   tidied s out w before e f =
-      sealed w (tidyOf (tableIn bytes) s out) before (e ∙ alike-said (λ p. tidyOf p s out) (outcome (NotWritten TableWrong) out) (λ p. tidy-bad p s out) l) f
+      sealed w (tidyOf (tableIn bytes) s out) before (e ∙ alike-said (λ p. tidyOf p s out) (outcome (NotWritten (refusal TableWrong 0)) out) (λ p. tidy-bad p s out) l) f
 
   pub written : (q : Request) (out : List ℕ) (w : Written) (before : ℕ) {n p m : ℕ} {after : List ℕ} → outcome w after ≡ writeOf part q out
       → (n ≡ writtenAnswer w .number) × (p ≡ writtenAnswer w .place) × (m ≡ sizeAfter (writtenAnswer w .values) before)
       → sealedBy n p m after ≡ sealedAs (writeOf (tableIn bytes) q out) before
   written q out w before e f =
-      sealed w (writeOf (tableIn bytes) q out) before (e ∙ alike-said (λ p. writeOf p q out) (outcome (NotWritten TableWrong) out) (λ p. write-bad p q out) l) f
+      sealed w (writeOf (tableIn bytes) q out) before (e ∙ alike-said (λ p. writeOf p q out) (outcome (NotWritten (refusal TableWrong 0)) out) (λ p. write-bad p q out) l) f

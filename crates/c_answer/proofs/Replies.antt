@@ -6,7 +6,7 @@ use mathlib.Core.List.{List, [], _∷_}
 use native.Mathlib.Omega.{arith}
 use lib.ListN.{length, getD, set, replicate}
 use Rattle.numbers.specs.Numbers.{put}
-use Rattle.answer.specs.declared.Refusal.the-variants.{Room}
+use Rattle.answer.specs.declared.Rule.the-variants.{Room}
 use Rattle.answer.specs.declared.Refusal.{Refusal}
 use Rattle.answer.specs.declared.Source.{Source}
 use Rattle.answer.specs.declared.Source.the-variants.{None, Domain}
@@ -14,7 +14,7 @@ use Rattle.answer.specs.declared.Found.{Found}
 use Rattle.answer.specs.declared.Found.the-variants.{Absent, Gone, Present, Refused}
 use Rattle.answer.specs.declared.Written.{Written}
 use Rattle.answer.specs.declared.Written.the-variants.{Refused as NotWritten}
-use Rattle.answer.specs.Answers.{numberOf, placeOf, writtenAnswer}
+use Rattle.answer.specs.Answers.{refusal, numberOf, placeOf, writtenAnswer}
 use Rattle.lists.proofs.Tests.{tests}
 use Rattle.numbers.proofs.Copies.{Copying, copying-more}
 use Rattle.c_answer.specs.declared.Reply.{Reply}
@@ -84,7 +84,7 @@ module _ (a : Reply) (found : List ℕ) where
   unfolding replyLeft
   left-refused h = let n : a .number ≡ 0 → ⊥ = λ e. omega arith in simp tests
 
-  pub left-room : {n p : ℕ} → a .number ≡ 0 → length found < 8 → n ≡ numberOf Room → p ≡ placeOf Room → lookedUpBy n p found ≡ replyLeft a found
+  pub left-room : {n p : ℕ} → a .number ≡ 0 → length found < 8 → n ≡ numberOf (refusal Room 0) → p ≡ placeOf (refusal Room 0) → lookedUpBy n p found ≡ replyLeft a found
   unfolding replyLeft
   left-room e h g i = rw (g, i) (simp (tests, e))
 

@@ -9,11 +9,11 @@ use mathlib.Core.List.{List, [], _∷_, _++_}
 use lib.Dec.{leb, eqb}
 use lib.ListN.{length, take, replicate}
 use Rattle.numbers.specs.Numbers.{put}
-use Rattle.answer.specs.declared.Refusal.the-variants.{Room}
+use Rattle.answer.specs.declared.Rule.the-variants.{Room}
 use Rattle.answer.specs.declared.Source.{Source}
 use Rattle.answer.specs.declared.Found.{Found}
 use Rattle.answer.specs.declared.Found.the-variants.{Absent, Gone, Present, Refused}
-use Rattle.answer.specs.Answers.{numberOf, placeOf, Answer, sourceValues, foundAnswer}
+use Rattle.answer.specs.Answers.{refusal, numberOf, placeOf, Answer, sourceValues, foundAnswer}
 use Rattle.segment.specs.declared.header.Heading.{Heading}
 use Rattle.segment.specs.Tidy.{Outcome}
 use Rattle.c_answer.specs.declared.Reply.{Reply}
@@ -61,7 +61,7 @@ lookedUpBy number place found = record { number = number; place = place; found =
 unfoldable pub replyLeft : Reply → List ℕ → LookedUp
 replyLeft a found =
     cond (eqb (a .number) 0)
-    (cond (leb 8 (length found)) (lookedUpBy 0 0 (put found 0 (a .values))) (lookedUpBy (numberOf Room) (placeOf Room) found))
+    (cond (leb 8 (length found)) (lookedUpBy 0 0 (put found 0 (a .values))) (lookedUpBy (numberOf (refusal Room 0)) (placeOf (refusal Room 0)) found))
     (lookedUpBy (a .number) (a .place) found)
 
 -- ---- write and tidy

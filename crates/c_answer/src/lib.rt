@@ -7,6 +7,7 @@ ghost use Rattle.answer.specs.Answers.{numberOf, placeOf, writtenAnswer};
 ghost use Rattle.c_answer.specs.Boundary.{replied, replyOf, lookedUpBy, replyLeft, sizeAfter};
 use answer::Found;
 use answer::Refusal;
+use answer::Rule;
 use answer::Source;
 use answer::Written;
 
@@ -122,7 +123,7 @@ pub fn leave(a: Reply, found: &mut [u64], place: &mut u64) -> u64
     }
     let values = a.values;
     if found.len() < 8 {
-        return refuse(Refusal::Room, place);
+        return refuse(Refusal(Rule::Room, 0), place);
     }
     put_values(&values[..8], found);
     *place = 0;

@@ -3,7 +3,6 @@ ghost use mathlib.Core.Path.{_≡_};
 ghost use Prim.Native.Nat.{_*_};
 ghost use lib.ListN.{length};
 use asl::Heading;
-use asl::Refusal;
 use asl::Written;
 
 // One line: what was asked, and what write answered.
@@ -13,11 +12,11 @@ fn show(name: &[u8], answer: Written) {
         Written::Done(n) => {
             io::write_all(1, b": written\n");
         }
-        Written::Refused(r) => match r {
-            Refusal::Large => {
+        Written::Refused(r) => match asl::number(r) {
+            16 => {
                 io::write_all(1, b": refused 16\n");
             }
-            Refusal::Room => {
+            13 => {
                 io::write_all(1, b": refused 13\n");
             }
             _ => {

@@ -23,6 +23,10 @@ pub only-must : (b : Bool) (q : Refusal) → Only q (must b q)
 only-must true q = accepts
 only-must false q = refuses
 
+-- a rule that is kept refuses with nothing
+pub only-kept : (q r : Refusal) → Only q (must true r)
+only-kept q r = accepts
+
 pub only-then : {q : Refusal} {a b : Verdict} → Only q a → Only q b → Only q (a then b)
 only-then accepts o = o
 only-then refuses o = refuses
@@ -31,7 +35,7 @@ pub only-cond : (b : Bool) {q : Refusal} {v w : Verdict} → Only q v → Only q
 only-cond true o p = o
 only-cond false o p = p
 
-pub ruleset only-rows = (only-must, only-then, only-cond)
+pub ruleset only-rows = (only-must, only-kept, only-then, only-cond)
 
 pub broken : {M : Type 0} {q : Refusal} {v : Verdict} → Only q v → v ≡ Accepted ↔ M → ¬ M → v ≡ Refused q
 broken accepts e n = absurd (n (e .0 refl))

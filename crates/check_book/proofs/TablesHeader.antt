@@ -9,7 +9,8 @@ use native.Mathlib.Decide.{ℕ-discrete}
 use native.Mathlib.Omega.{arith}
 use borrow.Author.Tests.{eq-eqb, ne-eqb}
 use lib.ListN.{length}
-use Rattle.answer.specs.declared.Refusal.the-variants.{Size, Magic, Version, Header as HeaderWrong, Layout, Checksum, Table}
+use Rattle.answer.specs.declared.Rule.the-variants.{Size, Magic, Version, Header as HeaderWrong, Layout, Checksum, Table}
+use Rattle.answer.specs.Answers.{refusal}
 use Rattle.answer.specs.declared.Verdict.the-variants.{Accepted, Refused}
 use Rattle.lists.proofs.Tests.{tests}
 use Rattle.answer.proofs.Order.{rows}
@@ -26,7 +27,7 @@ pub table-book : (pairs : List ℕ) → tableVerdict pairs ≡ Accepted ↔ good
 unfolding tableVerdict
 table-book pairs = simp rows Iff·rfl
 
-pub table-broken : (pairs : List ℕ) → goodTable pairs ≡ false → tableVerdict pairs ≡ Refused Table
+pub table-broken : (pairs : List ℕ) → goodTable pairs ≡ false → tableVerdict pairs ≡ Refused (refusal Table 0)
 unfolding tableVerdict
 table-broken pairs e = rw e
 
@@ -36,7 +37,7 @@ pub size-book : (s : List ℕ) → sizeVerdict (length s) ≡ Accepted ↔ SizeM
 unfolding sizeVerdict
 size-book s = simp rows (omega arith)
 
-pub size-broken : (s : List ℕ) → ¬ SizeMeets s → sizeVerdict (length s) ≡ Refused Size
+pub size-broken : (s : List ℕ) → ¬ SizeMeets s → sizeVerdict (length s) ≡ Refused (refusal Size 0)
 unfolding sizeVerdict
 size-broken s = broken (search only-rows) (size-book s)
 
@@ -47,12 +48,12 @@ module _ (sh : Shape) (h : Header) where
   unfolding headVerdict
   head-book = simp rows (omega arith)
 
-  pub magic-broken : ¬ (h .magic ≡ sh .magic) → headVerdict sh h ≡ Refused Magic
+  pub magic-broken : ¬ (h .magic ≡ sh .magic) → headVerdict sh h ≡ Refused (refusal Magic 0)
   unfolding headVerdict
   magic-broken n = simp tests
 
   module _ (m : h .magic ≡ sh .magic) where
-    pub version-broken : ¬ (h .version ≡ sh .version) → headVerdict sh h ≡ Refused Version
+    pub version-broken : ¬ (h .version ≡ sh .version) → headVerdict sh h ≡ Refused (refusal Version 0)
     unfolding headVerdict
     version-broken n = simp tests
 
@@ -60,7 +61,7 @@ module _ (sh : Shape) (h : Header) where
       pub header-book : headVerdict sh h ≡ Accepted ↔ HeaderMeets h
       header-book = (λ e. head-book .0 e .2, λ k. head-book .1 (m, v, k))
 
-      pub header-broken : ¬ HeaderMeets h → headVerdict sh h ≡ Refused HeaderWrong
+      pub header-broken : ¬ HeaderMeets h → headVerdict sh h ≡ Refused (refusal HeaderWrong 0)
       unfolding headVerdict
       header-broken = broken (simp (eq-eqb _ _ m, eq-eqb _ _ v) (search only-rows depth 9)) header-book
 
@@ -74,7 +75,7 @@ module _ (s : List ℕ) (h : Header) where
       (λ (z : bloomSize h ≡ 0). rw (eq-eqb (bloomSize h) 0 z) (simp rows (λ a. omega arith, λ (m : LayoutMeets v3 s h). omega (arith, m .noBloom z))))
       (λ (z : ¬ (bloomSize h ≡ 0)). rw (ne-eqb (bloomSize h) 0 z) (simp rows (λ a. omega arith, λ (m : LayoutMeets v3 s h). omega (arith, m .bloom z))))
 
-  pub layout-broken : ¬ LayoutMeets v3 s h → layoutVerdict v3 h (length s) ≡ Refused Layout
+  pub layout-broken : ¬ LayoutMeets v3 s h → layoutVerdict v3 h (length s) ≡ Refused (refusal Layout 0)
   unfolding layoutVerdict
   layout-broken = broken (search only-rows depth 9) layout-book
 
@@ -84,6 +85,6 @@ pub checksum-book : (s : List ℕ) → checksumVerdict s ≡ Accepted ↔ Checks
 unfolding checksumVerdict
 checksum-book s = simp rows Iff·rfl
 
-pub checksum-broken : (s : List ℕ) → ¬ ChecksumMeets s → checksumVerdict s ≡ Refused Checksum
+pub checksum-broken : (s : List ℕ) → ¬ ChecksumMeets s → checksumVerdict s ≡ Refused (refusal Checksum 0)
 unfolding checksumVerdict
 checksum-broken s = broken (search only-rows) (checksum-book s)

@@ -10,7 +10,8 @@ use native.Mathlib.Decide.{ℕ-discrete}
 use native.Mathlib.Nat.{not-suc-le-zero}
 use native.Mathlib.Omega.{arith}
 use borrow.Author.Tests.{eq-eqb, ne-eqb}
-use Rattle.answer.specs.declared.Refusal.the-variants.{Record as RecordWrong, Digest, Extents, Total}
+use Rattle.answer.specs.declared.Rule.the-variants.{Record as RecordWrong, Digest, Extents, Total}
+use Rattle.answer.specs.Answers.{refusal}
 use Rattle.answer.specs.declared.Verdict.{Verdict}
 use Rattle.answer.specs.declared.Verdict.the-variants.{Accepted, Refused}
 use Rattle.lists.proofs.Tests.{and-iff, or-iff, leb-iff}
@@ -136,28 +137,28 @@ record-book sh pairs s h k =
 
 -- which of them is the first that is broken
 module _ (sh : Shape) (pairs s : List ℕ) (h : Header) (r : Record) (k : ℕ) where
-  pub marks-broken : ¬ MarksMeet h r → recordRules sh pairs s h r k ≡ Refused (RecordWrong k)
+  pub marks-broken : ¬ MarksMeet h r → recordRules sh pairs s h r k ≡ Refused (refusal RecordWrong k)
   unfolding recordRules marksVerdict
   marks-broken n =
-      let e : marksVerdict h r k ≡ Refused (RecordWrong k) = broken (search only-rows depth 9) (marks-book h r k) n in
+      let e : marksVerdict h r k ≡ Refused (refusal RecordWrong k) = broken (search only-rows depth 9) (marks-book h r k) n in
       rw e
 
   module _ (m : MarksMeet h r) where
-    pub digest-broken : ¬ DigestMeets pairs h r → recordRules sh pairs s h r k ≡ Refused (Digest k)
+    pub digest-broken : ¬ DigestMeets pairs h r → recordRules sh pairs s h r k ≡ Refused (refusal Digest k)
     unfolding recordRules digestVerdict
     digest-broken n =
-        let e : digestVerdict pairs h r k ≡ Refused (Digest k) = broken (search only-rows) (digest-book pairs h r k) n in
+        let e : digestVerdict pairs h r k ≡ Refused (refusal Digest k) = broken (search only-rows) (digest-book pairs h r k) n in
         rw (marks-book h r k .1 m, e)
 
     module _ (d : DigestMeets pairs h r) where
-      pub extents-broken : ¬ ExtentsMeet h r → recordRules sh pairs s h r k ≡ Refused (Extents k)
+      pub extents-broken : ¬ ExtentsMeet h r → recordRules sh pairs s h r k ≡ Refused (refusal Extents k)
       unfolding recordRules extentsVerdict goneExtents liveExtents
       extents-broken n =
-          let e : extentsVerdict h r k ≡ Refused (Extents k) = broken (search only-rows depth 7) (extents-book h r k) n in
+          let e : extentsVerdict h r k ≡ Refused (refusal Extents k) = broken (search only-rows depth 7) (extents-book h r k) n in
           rw (marks-book h r k .1 m, digest-book pairs h r k .1 d, e)
 
-      pub total-broken : ExtentsMeet h r → ¬ TotalMeets sh s r → recordRules sh pairs s h r k ≡ Refused (Total k)
+      pub total-broken : ExtentsMeet h r → ¬ TotalMeets sh s r → recordRules sh pairs s h r k ≡ Refused (refusal Total k)
       unfolding recordRules totalVerdict liveTotal
       total-broken x n =
-          let e : totalVerdict sh s r k ≡ Refused (Total k) = broken (search only-rows) (total-book sh s r k) n in
+          let e : totalVerdict sh s r k ≡ Refused (refusal Total k) = broken (search only-rows) (total-book sh s r k) n in
           rw (marks-book h r k .1 m, digest-book pairs h r k .1 d, extents-book h r k .1 x, e)

@@ -7,7 +7,8 @@ use mathlib.Core.List.{List}
 use native.Mathlib.Nat.{not-suc-le-zero, eq-or-lt-of-le, le-of-suc-le-suc}
 use native.Mathlib.Decide.{decLe, ℕ-discrete}
 use native.Mathlib.Omega.{arith}
-use Rattle.answer.specs.declared.Refusal.the-variants.{Visibility}
+use Rattle.answer.specs.declared.Rule.the-variants.{Visibility}
+use Rattle.answer.specs.Answers.{refusal}
 use Rattle.answer.specs.declared.Verdict.the-variants.{Accepted, Refused}
 use Rattle.answer.proofs.Order.{rows}
 use Rattle.segment.specs.declared.header.Header.{Header}
@@ -74,6 +75,6 @@ module _ (sh : Shape) (s : List ℕ) (h : Header) where
   unfolding visibilityVerdict largest
   visibility-book = simp rows (largest-meets, meets-largest)
 
-  pub visibility-broken : ¬ VisibilityMeets sh s h → visibilityVerdict sh s h ≡ Refused Visibility
+  pub visibility-broken : ¬ VisibilityMeets sh s h → visibilityVerdict sh s h ≡ Refused (refusal Visibility 0)
   unfolding visibilityVerdict
   visibility-broken = broken (search only-rows) visibility-book

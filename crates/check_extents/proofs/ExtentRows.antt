@@ -9,7 +9,8 @@ use borrow.Author.Tests.{ne-eqb, leb-true}
 use lib.Dec.{eqb, leb}
 use Rattle.numbers.specs.Numbers.{numAt}
 use Rattle.answer.specs.declared.Refusal.{Refusal}
-use Rattle.answer.specs.declared.Refusal.the-variants.{Extents, Total}
+use Rattle.answer.specs.declared.Rule.the-variants.{Extents, Total}
+use Rattle.answer.specs.Answers.{refusal}
 use Rattle.answer.specs.declared.Verdict.{Verdict}
 use Rattle.answer.specs.declared.Verdict.the-variants.{Accepted, Refused}
 use Rattle.lists.proofs.Tests.{tests, by-test}
@@ -26,12 +27,12 @@ use Rattle.check_extents.specs.ExtentRules.{summed, slicesRules}
 
 module _ (h : Header) (r : Record) (k : ℕ) where
   module _ (g : r .flags ≡ 1) where
-    pub gone-placed : (r .«extents_offset» .0 ≡ 0 → ⊥) → Refused (Extents k) ≡ extentsVerdict h r k
+    pub gone-placed : (r .«extents_offset» .0 ≡ 0 → ⊥) → Refused (refusal Extents k) ≡ extentsVerdict h r k
     unfolding extentsVerdict goneExtents
     gone-placed a = simp tests
 
     module _ (a : r .«extents_offset» .0 ≡ 0) where
-      pub gone-some : (r .«extent_count» ≡ 0 → ⊥) → Refused (Extents k) ≡ extentsVerdict h r k
+      pub gone-some : (r .«extent_count» ≡ 0 → ⊥) → Refused (refusal Extents k) ≡ extentsVerdict h r k
       unfolding extentsVerdict goneExtents
       gone-some b = simp tests
 
@@ -40,22 +41,22 @@ module _ (h : Header) (r : Record) (k : ℕ) where
       gone-accepted b = simp tests
 
   module _ (g : r .flags ≡ 1 → ⊥) where
-    pub live-none : r .«extent_count» < 1 → Refused (Extents k) ≡ extentsVerdict h r k
+    pub live-none : r .«extent_count» < 1 → Refused (refusal Extents k) ≡ extentsVerdict h r k
     unfolding extentsVerdict liveExtents
     live-none a = simp tests
 
     module _ (a : 1 ≤ r .«extent_count») where
-      pub live-before : r .«extents_offset» .0 < extentsOffset h → Refused (Extents k) ≡ extentsVerdict h r k
+      pub live-before : r .«extents_offset» .0 < extentsOffset h → Refused (refusal Extents k) ≡ extentsVerdict h r k
       unfolding extentsVerdict liveExtents
       live-before b = simp tests
 
       module _ (b : extentsOffset h ≤ r .«extents_offset» .0) where
-        pub live-between : ((r .«extents_offset» .0 - extentsOffset h) % 16 ≡ 0 → ⊥) → Refused (Extents k) ≡ extentsVerdict h r k
+        pub live-between : ((r .«extents_offset» .0 - extentsOffset h) % 16 ≡ 0 → ⊥) → Refused (refusal Extents k) ≡ extentsVerdict h r k
         unfolding extentsVerdict liveExtents
         live-between c = simp tests
 
         module _ (c : (r .«extents_offset» .0 - extentsOffset h) % 16 ≡ 0) where
-          pub live-after : extentsOffset h + 16 * extentCount h < r .«extents_offset» .0 → Refused (Extents k) ≡ extentsVerdict h r k
+          pub live-after : extentsOffset h + 16 * extentCount h < r .«extents_offset» .0 → Refused (refusal Extents k) ≡ extentsVerdict h r k
           unfolding extentsVerdict liveExtents
           live-after d =
               let past : extentsOffset h + 16 * extentCount h < r .«extents_offset» .0 + 16 * r .«extent_count» = omega arith in
@@ -63,7 +64,7 @@ module _ (h : Header) (r : Record) (k : ℕ) where
 
           module _ (d : r .«extents_offset» .0 ≤ extentsOffset h + 16 * extentCount h) where
             pub live-past : extentsOffset h + 16 * extentCount h - r .«extents_offset» .0 < 16 * r .«extent_count»
-                → Refused (Extents k) ≡ extentsVerdict h r k
+                → Refused (refusal Extents k) ≡ extentsVerdict h r k
             unfolding extentsVerdict liveExtents
             live-past e =
                 let past : extentsOffset h + 16 * extentCount h < r .«extents_offset» .0 + 16 * r .«extent_count» = omega arith in
@@ -157,7 +158,7 @@ sum-is es sum e =
 
 module _ (s : List ℕ) (r : Record) (k : ℕ) where
   module _ (g : r .flags ≡ 1) where
-    pub gone-total : (r .«total_length» ≡ 0 → ⊥) → Refused (Total k) ≡ totalVerdict v3 s r k
+    pub gone-total : (r .«total_length» ≡ 0 → ⊥) → Refused (refusal Total k) ≡ totalVerdict v3 s r k
     unfolding totalVerdict
     gone-total a = simp tests
 
@@ -166,16 +167,16 @@ module _ (s : List ℕ) (r : Record) (k : ℕ) where
     gone-none a = simp tests
 
   module _ (g : r .flags ≡ 1 → ⊥) where
-    pub total-past : Past ≡ summed (extentsIn s r) → Refused (Total k) ≡ totalVerdict v3 s r k
+    pub total-past : Past ≡ summed (extentsIn s r) → Refused (refusal Total k) ≡ totalVerdict v3 s r k
     unfolding totalVerdict liveTotal
     total-past e = rw (not-fit (extentsIn s r) e) (simp tests)
 
     module _ (sum : ℕ) (e : Of sum ≡ summed (extentsIn s r)) where
-      pub total-great : 4294967295 < sum → Refused (Total k) ≡ totalVerdict v3 s r k
+      pub total-great : 4294967295 < sum → Refused (refusal Total k) ≡ totalVerdict v3 s r k
       unfolding totalVerdict liveTotal
       total-great a = rw (all-fit (extentsIn s r) sum e, sum-is (extentsIn s r) sum e) (simp tests)
 
-      pub total-differs : sum ≤ 4294967295 → (sum ≡ r .«total_length» → ⊥) → Refused (Total k) ≡ totalVerdict v3 s r k
+      pub total-differs : sum ≤ 4294967295 → (sum ≡ r .«total_length» → ⊥) → Refused (refusal Total k) ≡ totalVerdict v3 s r k
       unfolding totalVerdict liveTotal
       total-differs a b = rw (all-fit (extentsIn s r) sum e, sum-is (extentsIn s r) sum e) (simp tests)
 
@@ -190,10 +191,10 @@ unfolding liveExtents
 live-end h r k e =
     let at = r .«extents_offset» .0 in
     let end = extentsOffset h + 16 * extentCount h in
-    let a = held (leb 1 (r .«extent_count»)) (Extents k) _ e in
-    let b = held (leb (extentsOffset h) at) (Extents k) _ (a .1) in
-    let c = held (eqb ((at - extentsOffset h) % 16) 0) (Extents k) _ (b .1) in
-    leb-true (at + 16 * r .«extent_count») end (must-accepted (leb (at + 16 * r .«extent_count») end) (Extents k) .0 (c .1))
+    let a = held (leb 1 (r .«extent_count»)) (refusal Extents k) _ e in
+    let b = held (leb (extentsOffset h) at) (refusal Extents k) _ (a .1) in
+    let c = held (eqb ((at - extentsOffset h) % 16) 0) (refusal Extents k) _ (b .1) in
+    leb-true (at + 16 * r .«extent_count») end (must-accepted (leb (at + 16 * r .«extent_count») end) (refusal Extents k) .0 (c .1))
 
 pub live-inside : (h : Header) (r : Record) (k : ℕ) → (r .flags ≡ 1 → ⊥) → extentsVerdict h r k ≡ Accepted
     → r .«extents_offset» .0 + 16 * r .«extent_count» ≤ extentsOffset h + 16 * extentCount h

@@ -7,9 +7,10 @@ ghost use Rattle.segment.specs.Format.{v3, extentsAt};
 ghost use Rattle.segment.specs.Check.{extentsVerdict, totalVerdict};
 ghost use Rattle.check_header.specs.HeaderRules.{Laid};
 ghost use Rattle.check_extents.specs.ExtentRules.{summed, slicesRules};
-use field_record::extent;
 use answer::Refusal;
+use answer::Rule;
 use answer::Verdict;
+use field_record::extent;
 use segment::extent::Extent;
 use segment::header::Header;
 use segment::record::Record;
@@ -27,9 +28,9 @@ fn sum_extents(seg: &[u8], at: usize, count: usize) -> Sum
     let mut sum: u64 = 0;
     let mut i = 0;
     while i < count {
-        let place = at + Extent::SIZE * i;
-        let offset = extent::offset(seg, place).0 as u64;
-        let size = extent::length(seg, place) as u64;
+        let here = at + Extent::SIZE * i;
+        let offset = extent::offset(seg, here).0 as u64;
+        let size = extent::length(seg, here) as u64;
         if 4294967296 < offset + size {
             return Sum::Past;
         }
@@ -39,62 +40,62 @@ fn sum_extents(seg: &[u8], at: usize, count: usize) -> Sum
     Sum::Of(sum)
 }
 
-fn check_extents(seg: &[u8], h: Header, r: Record, k: usize) -> Verdict
+fn check_extents(seg: &[u8], h: Header, r: Record, place: u64) -> Verdict
     requires { ⌜ Laid (now seg) h ⌝ }
-    ensures { λ v. ⌜ v ≡ extentsVerdict h r k ⌝ }
+    ensures { λ v. ⌜ v ≡ extentsVerdict h r place ⌝ }
 {
-    let place = r.extents_offset.0;
+    let at = r.extents_offset.0;
     let count = r.extent_count as u64;
     if r.flags == 1 {
-        if place != 0 {
-            return Verdict::Refused(Refusal::Extents(k as u64));
+        if at != 0 {
+            return Verdict::Refused(Refusal(Rule::Extents, place));
         }
         if count != 0 {
-            return Verdict::Refused(Refusal::Extents(k as u64));
+            return Verdict::Refused(Refusal(Rule::Extents, place));
         }
         return Verdict::Accepted;
     }
     if count < 1 {
-        return Verdict::Refused(Refusal::Extents(k as u64));
+        return Verdict::Refused(Refusal(Rule::Extents, place));
     }
     let start = h.extents_offset.0;
-    if place < start {
-        return Verdict::Refused(Refusal::Extents(k as u64));
+    if at < start {
+        return Verdict::Refused(Refusal(Rule::Extents, place));
     }
-    if (place - start) % Extent::LONG != 0 {
-        return Verdict::Refused(Refusal::Extents(k as u64));
+    if (at - start) % Extent::LONG != 0 {
+        return Verdict::Refused(Refusal(Rule::Extents, place));
     }
     let end = start + Extent::LONG * h.extent_count;
-    if end < place {
-        return Verdict::Refused(Refusal::Extents(k as u64));
+    if end < at {
+        return Verdict::Refused(Refusal(Rule::Extents, place));
     }
-    if end - place < Extent::LONG * count {
-        return Verdict::Refused(Refusal::Extents(k as u64));
+    if end - at < Extent::LONG * count {
+        return Verdict::Refused(Refusal(Rule::Extents, place));
     }
     Verdict::Accepted
 }
 
-fn check_total(seg: &[u8], h: Header, r: Record, k: usize) -> Verdict
+fn check_total(seg: &[u8], h: Header, r: Record, place: u64) -> Verdict
     requires { ⌜ Laid (now seg) h ⌝ }
-    requires { ⌜ extentsVerdict h r k ≡ Accepted ⌝ }
-    ensures { λ v. ⌜ v ≡ totalVerdict v3 (now (seg .entry)) r k ⌝ }
+    requires { ⌜ extentsVerdict h r place ≡ Accepted ⌝ }
+    ensures { λ v. ⌜ v ≡ totalVerdict v3 (now (seg .entry)) r place ⌝ }
 {
     if r.flags == 1 {
         if r.total_length != 0 {
-            return Verdict::Refused(Refusal::Total(k as u64));
+            return Verdict::Refused(Refusal(Rule::Total, place));
         }
         return Verdict::Accepted;
     }
     match sum_extents(seg, r.extents_offset.0 as usize, r.extent_count as usize) {
         Sum::Past => {
-            return Verdict::Refused(Refusal::Total(k as u64));
+            return Verdict::Refused(Refusal(Rule::Total, place));
         }
         Sum::Of(sum) => {
             if 4294967295 < sum {
-                return Verdict::Refused(Refusal::Total(k as u64));
+                return Verdict::Refused(Refusal(Rule::Total, place));
             }
             if sum != r.total_length {
-                return Verdict::Refused(Refusal::Total(k as u64));
+                return Verdict::Refused(Refusal(Rule::Total, place));
             }
         }
     }
@@ -102,15 +103,15 @@ fn check_total(seg: &[u8], h: Header, r: Record, k: usize) -> Verdict
 }
 
 // 9 and 10.
-pub fn check_slices(seg: &[u8], h: Header, r: Record, k: usize) -> Verdict
+pub fn check_slices(seg: &[u8], h: Header, r: Record, place: u64) -> Verdict
     requires { ⌜ Laid (now seg) h ⌝ }
-    ensures { λ v. ⌜ v ≡ slicesRules (now (seg .entry)) h r k ⌝ }
+    ensures { λ v. ⌜ v ≡ slicesRules (now (seg .entry)) h r place ⌝ }
 {
-    match check_extents(seg, h, r, k) {
+    match check_extents(seg, h, r, place) {
         Verdict::Refused(x) => {
             return Verdict::Refused(x);
         }
         Verdict::Accepted => {}
     }
-    check_total(seg, h, r, k)
+    check_total(seg, h, r, place)
 }

@@ -7,7 +7,8 @@ use borrow.Author.Tests.{leb-true, eqb-true}
 use lib.Dec.{leb, eqb}
 use lib.ListN.{length}
 use Rattle.answer.specs.declared.Refusal.{Refusal}
-use Rattle.answer.specs.declared.Refusal.the-variants.{Layout}
+use Rattle.answer.specs.declared.Rule.the-variants.{Layout}
+use Rattle.answer.specs.Answers.{refusal}
 use Rattle.answer.specs.declared.Verdict.{Verdict}
 use Rattle.answer.specs.declared.Verdict.the-variants.{Accepted, Refused}
 use Rattle.answer.proofs.Order.{held, must-accepted, then-accepted}
@@ -29,14 +30,14 @@ pub laid-of : (s : List ℕ) (h : Header) → headerRules h (length s) ≡ Accep
 unfolding headerRules layoutVerdict
 laid-of s h e most =
     let w = then-accepted (headVerdict v3 h) (layoutVerdict v3 h (length s)) .0 e .1 in
-    let a = held (eqb (bloomOffset h) (bloomPlace (bloomSize h))) Layout _ w in
-    let b = held (eqb (bloomSize h % 8) 0) Layout _ (a .1) in
-    let c = held (leb (recordCount h) 65536) Layout _ (b .1) in
-    let d = held (eqb (recordsOffset h) (112 + bloomSize h)) Layout _ (c .1) in
-    let f = held (eqb (digestsOffset h) (recordsOffset h + 48 * recordCount h)) Layout _ (d .1) in
-    let g = held (eqb (digestsSize h % 8) 0) Layout _ (f .1) in
-    let i = held (eqb (extentsOffset h) (digestsOffset h + digestsSize h)) Layout _ (g .1) in
-    let j = must-accepted (eqb (length s) (extentsOffset h + 16 * extentCount h + 24)) Layout .0 (i .1) in
+    let a = held (eqb (bloomOffset h) (bloomPlace (bloomSize h))) (refusal Layout 0) _ w in
+    let b = held (eqb (bloomSize h % 8) 0) (refusal Layout 0) _ (a .1) in
+    let c = held (leb (recordCount h) 65536) (refusal Layout 0) _ (b .1) in
+    let d = held (eqb (recordsOffset h) (112 + bloomSize h)) (refusal Layout 0) _ (c .1) in
+    let f = held (eqb (digestsOffset h) (recordsOffset h + 48 * recordCount h)) (refusal Layout 0) _ (d .1) in
+    let g = held (eqb (digestsSize h % 8) 0) (refusal Layout 0) _ (f .1) in
+    let i = held (eqb (extentsOffset h) (digestsOffset h + digestsSize h)) (refusal Layout 0) _ (g .1) in
+    let j = must-accepted (eqb (length s) (extentsOffset h + 16 * extentCount h + 24)) (refusal Layout 0) .0 (i .1) in
     record {
       few = leb-true (recordCount h) 65536 (c .0);
       records = eqb-true (recordsOffset h) (112 + bloomSize h) (d .0);

@@ -11,7 +11,8 @@ use lib.Dec.{eqb}
 use lib.ListN.{length, take}
 use Rattle.numbers.specs.Numbers.{numAt}
 use Rattle.crc64.specs.Crc.{crc}
-use Rattle.answer.specs.declared.Refusal.the-variants.{Magic, Version, Header as HeaderWrong, Layout, Checksum}
+use Rattle.answer.specs.declared.Rule.the-variants.{Magic, Version, Header as HeaderWrong, Layout, Checksum}
+use Rattle.answer.specs.Answers.{refusal}
 use Rattle.answer.specs.declared.Verdict.the-variants.{Accepted, Refused}
 use Rattle.lists.proofs.Tests.{tests, by-test, was-true, was-false}
 use Rattle.segment.specs.declared.header.Header.{Header}
@@ -21,37 +22,37 @@ use Rattle.segment.specs.Check.{headVerdict, bloomPlace, layoutVerdict, checksu
 -- ---- 2, 3 and 4
 
 module _ (h : Header) where
-  pub head-magic : (h .magic ≡ 0x3330_5844_494C_5341 → ⊥) → Refused Magic ≡ headVerdict v3 h
+  pub head-magic : (h .magic ≡ 0x3330_5844_494C_5341 → ⊥) → Refused (refusal Magic 0) ≡ headVerdict v3 h
   unfolding headVerdict
   head-magic m = simp tests
 
   module _ (m : h .magic ≡ 0x3330_5844_494C_5341) where
-    pub head-version : (h .version ≡ 3 → ⊥) → Refused Version ≡ headVerdict v3 h
+    pub head-version : (h .version ≡ 3 → ⊥) → Refused (refusal Version 0) ≡ headVerdict v3 h
     unfolding headVerdict
     head-version v = simp tests
 
     module _ (v : h .version ≡ 3) where
-      pub head-size : (h .«header_size» ≡ 112 → ⊥) → Refused HeaderWrong ≡ headVerdict v3 h
+      pub head-size : (h .«header_size» ≡ 112 → ⊥) → Refused (refusal HeaderWrong 0) ≡ headVerdict v3 h
       unfolding headVerdict
       head-size z = simp tests
 
       module _ (z : h .«header_size» ≡ 112) where
-        pub head-federation : (h .federation ≡ 0 → ⊥) → Refused HeaderWrong ≡ headVerdict v3 h
+        pub head-federation : (h .federation ≡ 0 → ⊥) → Refused (refusal HeaderWrong 0) ≡ headVerdict v3 h
         unfolding headVerdict
         head-federation f = simp tests
 
         module _ (f : h .federation ≡ 0) where
-          pub head-reserved : (h .reserved ≡ 0 → ⊥) → Refused HeaderWrong ≡ headVerdict v3 h
+          pub head-reserved : (h .reserved ≡ 0 → ⊥) → Refused (refusal HeaderWrong 0) ≡ headVerdict v3 h
           unfolding headVerdict
           head-reserved r = simp tests
 
           module _ (r : h .reserved ≡ 0) where
-            pub head-flags : (h .flags ≡ 0 → ⊥) → Refused HeaderWrong ≡ headVerdict v3 h
+            pub head-flags : (h .flags ≡ 0 → ⊥) → Refused (refusal HeaderWrong 0) ≡ headVerdict v3 h
             unfolding headVerdict
             head-flags g = simp tests
 
             module _ (g : h .flags ≡ 0) where
-              pub head-visibility : 1 < h .visibility → Refused HeaderWrong ≡ headVerdict v3 h
+              pub head-visibility : 1 < h .visibility → Refused (refusal HeaderWrong 0) ≡ headVerdict v3 h
               unfolding headVerdict
               head-visibility s = simp tests
 
@@ -92,42 +93,42 @@ module _ (n extents count : ℕ) where
 -- ---- 5
 
 module _ (h : Header) (n : ℕ) (place : ℕ) (p : place ≡ bloomPlace (bloomSize h)) where
-  pub layout-bloom : (bloomOffset h ≡ place → ⊥) → Refused Layout ≡ layoutVerdict v3 h n
+  pub layout-bloom : (bloomOffset h ≡ place → ⊥) → Refused (refusal Layout 0) ≡ layoutVerdict v3 h n
   unfolding layoutVerdict
   layout-bloom b = rw (← p) (simp tests)
 
   module _ (b : bloomOffset h ≡ place) where
-    pub layout-bloom-size : (bloomSize h % 8 ≡ 0 → ⊥) → Refused Layout ≡ layoutVerdict v3 h n
+    pub layout-bloom-size : (bloomSize h % 8 ≡ 0 → ⊥) → Refused (refusal Layout 0) ≡ layoutVerdict v3 h n
     unfolding layoutVerdict
     layout-bloom-size z = rw (← p) (simp tests)
 
     module _ (z : bloomSize h % 8 ≡ 0) where
-      pub layout-count : 65536 < recordCount h → Refused Layout ≡ layoutVerdict v3 h n
+      pub layout-count : 65536 < recordCount h → Refused (refusal Layout 0) ≡ layoutVerdict v3 h n
       unfolding layoutVerdict
       layout-count c = rw (← p) (simp tests)
 
       module _ (c : recordCount h ≤ 65536) (t₁ : Bool) (e₁ : t₁ ≡ eqb (recordsOffset h) (112 + bloomSize h)) where
-        pub layout-records : not t₁ ≡ true → Refused Layout ≡ layoutVerdict v3 h n
+        pub layout-records : not t₁ ≡ true → Refused (refusal Layout 0) ≡ layoutVerdict v3 h n
         unfolding layoutVerdict
         layout-records f = rw (← p) (simp (tests, was-false e₁ f))
 
         module _ (f₁ : not t₁ ≡ false) (t₂ : Bool) (e₂ : t₂ ≡ eqb (digestsOffset h) (recordsOffset h + 48 * recordCount h)) where
-          pub layout-digests : not t₂ ≡ true → Refused Layout ≡ layoutVerdict v3 h n
+          pub layout-digests : not t₂ ≡ true → Refused (refusal Layout 0) ≡ layoutVerdict v3 h n
           unfolding layoutVerdict
           layout-digests f = rw (← p) (simp (tests, was-true e₁ f₁, was-false e₂ f))
 
           module _ (f₂ : not t₂ ≡ false) where
-            pub layout-digests-size : (digestsSize h % 8 ≡ 0 → ⊥) → Refused Layout ≡ layoutVerdict v3 h n
+            pub layout-digests-size : (digestsSize h % 8 ≡ 0 → ⊥) → Refused (refusal Layout 0) ≡ layoutVerdict v3 h n
             unfolding layoutVerdict
             layout-digests-size d = rw (← p) (simp (tests, was-true e₁ f₁, was-true e₂ f₂))
 
             module _ (d : digestsSize h % 8 ≡ 0) (t₃ : Bool) (e₃ : t₃ ≡ eqb (extentsOffset h) (digestsOffset h + digestsSize h)) where
-              pub layout-extents : not t₃ ≡ true → Refused Layout ≡ layoutVerdict v3 h n
+              pub layout-extents : not t₃ ≡ true → Refused (refusal Layout 0) ≡ layoutVerdict v3 h n
               unfolding layoutVerdict
               layout-extents f = rw (← p) (simp (tests, was-true e₁ f₁, was-true e₂ f₂, was-false e₃ f))
 
               module _ (f₃ : not t₃ ≡ false) (t₄ : Bool) (e₄ : t₄ ≡ eqb n (extentsOffset h + 16 * extentCount h + 24)) where
-                pub layout-file : not t₄ ≡ true → Refused Layout ≡ layoutVerdict v3 h n
+                pub layout-file : not t₄ ≡ true → Refused (refusal Layout 0) ≡ layoutVerdict v3 h n
                 unfolding layoutVerdict
                 layout-file f = rw (← p) (simp (tests, was-true e₁ f₁, was-true e₂ f₂, was-true e₃ f₃, was-false e₄ f))
 
@@ -150,7 +151,7 @@ pub ruleset layout-rows = (
 -- ---- 6
 
 module _ (s : List ℕ) (stored computed : ℕ) (p : stored ≡ numAt 8 s (length s - 24)) (q : computed ≡ crc (take (length s - 24) s)) where
-  pub checksum-differs : (computed ≡ stored → ⊥) → Refused Checksum ≡ checksumVerdict s
+  pub checksum-differs : (computed ≡ stored → ⊥) → Refused (refusal Checksum 0) ≡ checksumVerdict s
   unfolding checksumVerdict footerOf
   checksum-differs d = rw (← p, ← q, ne-eqb stored computed (λ e. d (sym e)))
 

@@ -6,9 +6,10 @@ ghost use lib.ListN.{length};
 ghost use Rattle.segment.specs.Format.{v3};
 ghost use Rattle.segment.specs.Check.{headVerdict, layoutVerdict, checksumVerdict};
 ghost use Rattle.check_header.specs.HeaderRules.{headerRules};
-use field_frame::footer;
 use answer::Refusal;
+use answer::Rule;
 use answer::Verdict;
+use field_frame::footer;
 use segment::extent::Extent;
 use segment::footer::Footer;
 use segment::header;
@@ -19,25 +20,25 @@ fn check_head(h: Header) -> Verdict
     ensures { λ r. ⌜ r ≡ headVerdict v3 h ⌝ }
 {
     if h.magic != Header::MAGIC {
-        return Verdict::Refused(Refusal::Magic);
+        return Verdict::Refused(Refusal(Rule::Magic, 0));
     }
     if h.version != Header::VERSION {
-        return Verdict::Refused(Refusal::Version);
+        return Verdict::Refused(Refusal(Rule::Version, 0));
     }
     if h.header_size != Header::STATED {
-        return Verdict::Refused(Refusal::Header);
+        return Verdict::Refused(Refusal(Rule::Header, 0));
     }
     if h.federation != 0 {
-        return Verdict::Refused(Refusal::Header);
+        return Verdict::Refused(Refusal(Rule::Header, 0));
     }
     if h.reserved != 0 {
-        return Verdict::Refused(Refusal::Header);
+        return Verdict::Refused(Refusal(Rule::Header, 0));
     }
     if h.flags != 0 {
-        return Verdict::Refused(Refusal::Header);
+        return Verdict::Refused(Refusal(Rule::Header, 0));
     }
     if 1 < h.visibility {
-        return Verdict::Refused(Refusal::Header);
+        return Verdict::Refused(Refusal(Rule::Header, 0));
     }
     Verdict::Accepted
 }
@@ -74,32 +75,32 @@ fn check_layout(h: Header, n: u64) -> Verdict
     ensures { λ r. ⌜ r ≡ layoutVerdict v3 h n ⌝ }
 {
     if h.bloom_offset.0 != header::bloom_place(h.bloom_size) {
-        return Verdict::Refused(Refusal::Layout);
+        return Verdict::Refused(Refusal(Rule::Layout, 0));
     }
     if h.bloom_size % 8 != 0 {
-        return Verdict::Refused(Refusal::Layout);
+        return Verdict::Refused(Refusal(Rule::Layout, 0));
     }
     if 65536 < h.record_count {
-        return Verdict::Refused(Refusal::Layout);
+        return Verdict::Refused(Refusal(Rule::Layout, 0));
     }
     if !is_sum(h.records_offset.0, Header::LONG, h.bloom_size) {
-        return Verdict::Refused(Refusal::Layout);
+        return Verdict::Refused(Refusal(Rule::Layout, 0));
     }
     if !is_sum(
         h.digests_offset.0,
         h.records_offset.0,
         Record::LONG * h.record_count,
     ) {
-        return Verdict::Refused(Refusal::Layout);
+        return Verdict::Refused(Refusal(Rule::Layout, 0));
     }
     if h.digests_size % 8 != 0 {
-        return Verdict::Refused(Refusal::Layout);
+        return Verdict::Refused(Refusal(Rule::Layout, 0));
     }
     if !is_sum(h.extents_offset.0, h.digests_offset.0, h.digests_size) {
-        return Verdict::Refused(Refusal::Layout);
+        return Verdict::Refused(Refusal(Rule::Layout, 0));
     }
     if !ends_so(n, h.extents_offset.0, h.extent_count) {
-        return Verdict::Refused(Refusal::Layout);
+        return Verdict::Refused(Refusal(Rule::Layout, 0));
     }
     Verdict::Accepted
 }
@@ -124,7 +125,7 @@ pub fn check_checksum(seg: &[u8]) -> Verdict
     let end = seg.len() - Footer::SIZE;
     let stored = footer::checksum(seg, end);
     if crc64::crc64_plain(&seg[..end]) != stored {
-        return Verdict::Refused(Refusal::Checksum);
+        return Verdict::Refused(Refusal(Rule::Checksum, 0));
     }
     Verdict::Accepted
 }

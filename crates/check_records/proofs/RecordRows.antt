@@ -7,7 +7,8 @@ use mathlib.Core.Bool.{Bool, true, false, not, _||_}
 use mathlib.Core.List.{List}
 use native.Mathlib.Omega.{arith}
 use lib.Dec.{eqb}
-use Rattle.answer.specs.declared.Refusal.the-variants.{Record as RecordWrong, Digest}
+use Rattle.answer.specs.declared.Rule.the-variants.{Record as RecordWrong, Digest}
+use Rattle.answer.specs.Answers.{refusal}
 use Rattle.answer.specs.declared.Verdict.the-variants.{Accepted, Refused}
 use Rattle.lists.proofs.Tests.{tests, was-true, was-false}
 use Rattle.segment.specs.declared.header.Header.{Header}
@@ -25,37 +26,37 @@ pub own-source : (imported source : ℕ) → (imported ≡ 1 → ⊥) → eqb so
 own-source imported source e = simp tests
 
 module _ (h : Header) (r : Record) (k : ℕ) where
-  pub marks-reserved : (r .reserved ≡ 0 → ⊥) → Refused (RecordWrong k) ≡ marksVerdict h r k
+  pub marks-reserved : (r .reserved ≡ 0 → ⊥) → Refused (refusal RecordWrong k) ≡ marksVerdict h r k
   unfolding marksVerdict
   marks-reserved a = simp tests
 
   module _ (a : r .reserved ≡ 0) where
-    pub marks-last : (r .«reserved_last» ≡ 0 → ⊥) → Refused (RecordWrong k) ≡ marksVerdict h r k
+    pub marks-last : (r .«reserved_last» ≡ 0 → ⊥) → Refused (refusal RecordWrong k) ≡ marksVerdict h r k
     unfolding marksVerdict
     marks-last b = simp tests
 
     module _ (b : r .«reserved_last» ≡ 0) where
-      pub marks-flags : 1 < r .flags → Refused (RecordWrong k) ≡ marksVerdict h r k
+      pub marks-flags : 1 < r .flags → Refused (refusal RecordWrong k) ≡ marksVerdict h r k
       unfolding marksVerdict
       marks-flags f = simp tests
 
       module _ (f : r .flags ≤ 1) where
-        pub marks-visibility : 1 < r .visibility → Refused (RecordWrong k) ≡ marksVerdict h r k
+        pub marks-visibility : 1 < r .visibility → Refused (refusal RecordWrong k) ≡ marksVerdict h r k
         unfolding marksVerdict
         marks-visibility v = simp tests
 
         module _ (v : r .visibility ≤ 1) where
-          pub marks-imported : 1 < r .imported → Refused (RecordWrong k) ≡ marksVerdict h r k
+          pub marks-imported : 1 < r .imported → Refused (refusal RecordWrong k) ≡ marksVerdict h r k
           unfolding marksVerdict
           marks-imported i = simp tests
 
           module _ (i : r .imported ≤ 1) (t : Bool) (e : t ≡ (eqb (r .imported) 1 || eqb (r .source) 0)) where
-            pub marks-source : not t ≡ true → Refused (RecordWrong k) ≡ marksVerdict h r k
+            pub marks-source : not t ≡ true → Refused (refusal RecordWrong k) ≡ marksVerdict h r k
             unfolding marksVerdict
             marks-source s = simp (tests, was-false e s)
 
             module _ (s : not t ≡ false) where
-              pub marks-domain : (r .domain ≡ h .domain → ⊥) → Refused (RecordWrong k) ≡ marksVerdict h r k
+              pub marks-domain : (r .domain ≡ h .domain → ⊥) → Refused (refusal RecordWrong k) ≡ marksVerdict h r k
               unfolding marksVerdict
               marks-domain d = simp (tests, was-true e s)
 
@@ -77,24 +78,24 @@ pub ruleset marks-rows = (
 -- ---- 8
 
 module _ (pairs : List ℕ) (h : Header) (r : Record) (k : ℕ) (t : Bool) (e : t ≡ allows pairs (r .«hash_id») (r .«digest_length»)) where
-  pub digest-unknown : not t ≡ true → Refused (Digest k) ≡ digestVerdict pairs h r k
+  pub digest-unknown : not t ≡ true → Refused (refusal Digest k) ≡ digestVerdict pairs h r k
   unfolding digestVerdict
   digest-unknown a = simp (tests, was-false e a)
 
   module _ (a : not t ≡ false) where
-    pub digest-before : r .«digest_offset» .0 < digestsOffset h → Refused (Digest k) ≡ digestVerdict pairs h r k
+    pub digest-before : r .«digest_offset» .0 < digestsOffset h → Refused (refusal Digest k) ≡ digestVerdict pairs h r k
     unfolding digestVerdict
     digest-before b = simp (tests, was-true e a)
 
     module _ (b : digestsOffset h ≤ r .«digest_offset» .0) where
-      pub digest-after : digestsOffset h + digestsSize h < r .«digest_offset» .0 → Refused (Digest k) ≡ digestVerdict pairs h r k
+      pub digest-after : digestsOffset h + digestsSize h < r .«digest_offset» .0 → Refused (refusal Digest k) ≡ digestVerdict pairs h r k
       unfolding digestVerdict
       digest-after c =
           let past : digestsOffset h + digestsSize h < r .«digest_offset» .0 + r .«digest_length» = omega arith in
           simp (tests, was-true e a)
 
       module _ (c : r .«digest_offset» .0 ≤ digestsOffset h + digestsSize h) where
-        pub digest-past : digestsOffset h + digestsSize h - r .«digest_offset» .0 < r .«digest_length» → Refused (Digest k) ≡ digestVerdict pairs h r k
+        pub digest-past : digestsOffset h + digestsSize h - r .«digest_offset» .0 < r .«digest_length» → Refused (refusal Digest k) ≡ digestVerdict pairs h r k
         unfolding digestVerdict
         digest-past d =
             let past : digestsOffset h + digestsSize h < r .«digest_offset» .0 + r .«digest_length» = omega arith in

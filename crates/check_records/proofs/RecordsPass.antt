@@ -13,7 +13,7 @@ use Rattle.answer.proofs.Order.{then-assoc, first-none, first-more, first-refus
 use Rattle.segment.specs.declared.header.Header.{Header}
 use Rattle.segment.specs.declared.record.Record.{Record}
 use Rattle.segment.specs.Format.{v3, recordOf, recordNo, recordsOffset}
-use Rattle.segment.specs.Check.{marksVerdict, digestVerdict, extentsVerdict, totalVerdict, recordRules, recordVerdict, largestBelow, visibilityNo}
+use Rattle.segment.specs.Check.{placeFrom, marksVerdict, digestVerdict, extentsVerdict, totalVerdict, recordRules, recordVerdict, largestBelow, visibilityNo}
 use Rattle.check_extents.specs.ExtentRules.{slicesRules}
 use Rattle.check_records.specs.declared.Passed.the-variants.{Largest, Refused as NotPassed}
 use Rattle.check_records.specs.RecordsPassed.{identityRules, passed}
@@ -51,16 +51,17 @@ pub pass-start : (pairs s : List ℕ) (h : Header) → Passing pairs s h 0 0
 unfolding largestBelow
 pass-start pairs s h = record { accepted = first-none (recordVerdict v3 pairs s h); shown = refl }
 
-module _ (pairs s : List ℕ) (h : Header) (k largest : ℕ) (r : Record) (p : Passing pairs s h k largest) (q : r ≡ recordOf v3 s (recordsOffset h + 48 * k)) where
-  here : recordRules v3 pairs s h r k ≡ recordVerdict v3 pairs s h k
+module _ (pairs s : List ℕ) (h : Header) (k largest : ℕ) (r : Record) (p : Passing pairs s h k largest) (q : r ≡ recordOf v3 s (recordsOffset h + 48 * k))
+    (at : ℕ) (w : at ≡ placeFrom v3 (recordsOffset h) k) where
+  here : recordRules v3 pairs s h r at ≡ recordVerdict v3 pairs s h k
   unfolding recordVerdict recordNo
-  here = rw q
+  here = rw (q, w)
 
-  pub pass-refused : (n : ℕ) (x : Refusal) → k < n → recordRules v3 pairs s h r k ≡ Refused x → NotPassed x ≡ passed pairs s h n
+  pub pass-refused : (n : ℕ) (x : Refusal) → k < n → recordRules v3 pairs s h r at ≡ Refused x → NotPassed x ≡ passed pairs s h n
   unfolding passed
   pass-refused n x l e = rw (first-refused n k (recordVerdict v3 pairs s h) x l (p .accepted) (sym here ∙ e))
 
-  pub pass-more : (m : ℕ) → recordRules v3 pairs s h r k ≡ Accepted → m ≡ max largest (r .visibility) → Passing pairs s h (k + 1) m
+  pub pass-more : (m : ℕ) → recordRules v3 pairs s h r at ≡ Accepted → m ≡ max largest (r .visibility) → Passing pairs s h (k + 1) m
   unfolding largestBelow visibilityNo recordNo
   pass-more m e f = record {
     accepted = first-more k (recordVerdict v3 pairs s h) (p .accepted) (sym here ∙ e);

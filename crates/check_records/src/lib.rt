@@ -8,8 +8,10 @@ ghost use Rattle.segment.specs.Check.{marksVerdict, digestVerdict, recordRules}
 ghost use Rattle.check_header.specs.HeaderRules.{Laid};
 ghost use Rattle.check_records.specs.RecordsPassed.{identityRules, passed};
 use answer::Refusal;
+use answer::Rule;
 use answer::Verdict;
 use segment::header::Header;
+use segment::record;
 use segment::record::Record;
 
 // What the pass over the records came to: the largest visibility, or the first refusal.
@@ -27,80 +29,80 @@ fn source_fits(imported: u8, source: u32) -> bool
     source == 0
 }
 
-fn check_marks(h: Header, r: Record, k: usize) -> Verdict
-    ensures { λ v. ⌜ v ≡ marksVerdict h r k ⌝ }
+fn check_marks(h: Header, r: Record, place: u64) -> Verdict
+    ensures { λ v. ⌜ v ≡ marksVerdict h r place ⌝ }
 {
     if r.reserved != 0 {
-        return Verdict::Refused(Refusal::Record(k as u64));
+        return Verdict::Refused(Refusal(Rule::Record, place));
     }
     if r.reserved_last != 0 {
-        return Verdict::Refused(Refusal::Record(k as u64));
+        return Verdict::Refused(Refusal(Rule::Record, place));
     }
     if 1 < r.flags {
-        return Verdict::Refused(Refusal::Record(k as u64));
+        return Verdict::Refused(Refusal(Rule::Record, place));
     }
     if 1 < r.visibility {
-        return Verdict::Refused(Refusal::Record(k as u64));
+        return Verdict::Refused(Refusal(Rule::Record, place));
     }
     if 1 < r.imported {
-        return Verdict::Refused(Refusal::Record(k as u64));
+        return Verdict::Refused(Refusal(Rule::Record, place));
     }
     if !source_fits(r.imported, r.source) {
-        return Verdict::Refused(Refusal::Record(k as u64));
+        return Verdict::Refused(Refusal(Rule::Record, place));
     }
     if r.domain != h.domain {
-        return Verdict::Refused(Refusal::Record(k as u64));
+        return Verdict::Refused(Refusal(Rule::Record, place));
     }
     Verdict::Accepted
 }
 
-fn check_digest(pairs: &[u64], seg: &[u8], h: Header, r: Record, k: usize) -> Verdict
+fn check_digest(pairs: &[u64], seg: &[u8], h: Header, r: Record, place: u64) -> Verdict
     requires { ⌜ Laid (now seg) h ⌝ }
-    ensures { λ v. ⌜ v ≡ digestVerdict (now (pairs .entry)) h r k ⌝ }
+    ensures { λ v. ⌜ v ≡ digestVerdict (now (pairs .entry)) h r place ⌝ }
 {
     let size = r.digest_length as u64;
     if !table::allows(pairs, r.hash_id as u64, size) {
-        return Verdict::Refused(Refusal::Digest(k as u64));
+        return Verdict::Refused(Refusal(Rule::Digest, place));
     }
-    let place = r.digest_offset.0;
-    if place < h.digests_offset.0 {
-        return Verdict::Refused(Refusal::Digest(k as u64));
+    let at = r.digest_offset.0;
+    if at < h.digests_offset.0 {
+        return Verdict::Refused(Refusal(Rule::Digest, place));
     }
     let end = h.digests_offset.0 + h.digests_size;
-    if end < place {
-        return Verdict::Refused(Refusal::Digest(k as u64));
+    if end < at {
+        return Verdict::Refused(Refusal(Rule::Digest, place));
     }
-    if end - place < size {
-        return Verdict::Refused(Refusal::Digest(k as u64));
+    if end - at < size {
+        return Verdict::Refused(Refusal(Rule::Digest, place));
     }
     Verdict::Accepted
 }
 
 // 7 and 8.
-fn check_identity(pairs: &[u64], seg: &[u8], h: Header, r: Record, k: usize) -> Verdict
+fn check_identity(pairs: &[u64], seg: &[u8], h: Header, r: Record, place: u64) -> Verdict
     requires { ⌜ Laid (now seg) h ⌝ }
-    ensures { λ v. ⌜ v ≡ identityRules (now (pairs .entry)) h r k ⌝ }
+    ensures { λ v. ⌜ v ≡ identityRules (now (pairs .entry)) h r place ⌝ }
 {
-    match check_marks(h, r, k) {
+    match check_marks(h, r, place) {
         Verdict::Refused(x) => {
             return Verdict::Refused(x);
         }
         Verdict::Accepted => {}
     }
-    check_digest(pairs, seg, h, r, k)
+    check_digest(pairs, seg, h, r, place)
 }
 
-fn check_record(pairs: &[u64], seg: &[u8], h: Header, r: Record, k: usize) -> Verdict
+fn check_record(pairs: &[u64], seg: &[u8], h: Header, r: Record, place: u64) -> Verdict
     requires { ⌜ Laid (now seg) h ⌝ }
-    ensures { λ v. ⌜ v ≡ recordRules v3 (now (pairs .entry)) (now (seg .entry)) h r k ⌝ }
+    ensures { λ v. ⌜ v ≡ recordRules v3 (now (pairs .entry)) (now (seg .entry)) h r place ⌝ }
 {
-    match check_identity(pairs, seg, h, r, k) {
+    match check_identity(pairs, seg, h, r, place) {
         Verdict::Refused(x) => {
             return Verdict::Refused(x);
         }
         Verdict::Accepted => {}
     }
-    check_extents::check_slices(seg, h, r, k)
+    check_extents::check_slices(seg, h, r, place)
 }
 
 // What a record counts with towards the header's visibility: its own, gone or not.
@@ -126,7 +128,7 @@ pub fn check_records(pairs: &[u64], seg: &[u8], h: Header) -> Passed
     let mut k = 0;
     while k < count {
         let r = Record::at(seg, first + Record::SIZE * k);
-        match check_record(pairs, seg, h, r, k) {
+        match check_record(pairs, seg, h, r, record::place_of(first, k)) {
             Verdict::Refused(x) => {
                 return Passed::Refused(x);
             }

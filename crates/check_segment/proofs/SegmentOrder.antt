@@ -9,11 +9,11 @@ use borrow.Author.Tests.{leb-true, eq-eqb, ne-eqb}
 use lib.Dec.{leb}
 use lib.ListN.{length}
 use Rattle.answer.specs.declared.Refusal.{Refusal}
-use Rattle.answer.specs.declared.Refusal.the-variants.{Size, Digest, Visibility, Table as TableWrong}
+use Rattle.answer.specs.declared.Rule.the-variants.{Size, Digest, Visibility, Table as TableWrong}
 use Rattle.answer.specs.declared.Verdict.{Verdict}
 use Rattle.answer.specs.declared.Verdict.the-variants.{Accepted, Refused}
 use Rattle.answer.specs.Rules.{_then_, firstOver}
-use Rattle.answer.specs.Answers.{checkAnswer}
+use Rattle.answer.specs.Answers.{refusal, checkAnswer}
 use Rattle.lists.proofs.Tests.{tests}
 use Rattle.answer.proofs.Order.{held, must-accepted, then-accepted, then-assoc, first-accepted}
 use Rattle.segment.specs.declared.header.Header.{Header}
@@ -38,10 +38,11 @@ use Rattle.segment.specs.Check.{
   visibilityVerdict,
   digestIn,
   keyNo,
+  recordPlace,
 }
 use Rattle.segment.specs.Keys.{freshKey}
 use Rattle.key.specs.declared.Kind.the-variants.{Records}
-use Rattle.key.specs.Items.{Item, Items, Stands, itemKey, itemHash, itemDigest, itemSpan, recordSpan}
+use Rattle.key.specs.Items.{Item, Items, Stands, itemKey, itemHash, itemDigest, itemSpan, itemPlace, recordSpan}
 use Rattle.check_header.specs.HeaderRules.{Laid, headerRules}
 use Rattle.check_header.proofs.HeaderOrder.{laid-of}
 use Rattle.check_records.specs.declared.Passed.the-variants.{Largest, Refused as NotPassed}
@@ -52,8 +53,8 @@ use Rattle.check_segment.specs.SegmentParts.{contentsVerdict, bodyRules}
 
 -- the keys of the records, as items and as records
 same-keys : (pairs s : List ℕ) (h : Header) (n : ℕ)
-    → firstOver n (freshKey (itemKey (Records (recordsOffset h)) s pairs)) ≡ firstOver n (freshKey (keyNo v3 s h))
-unfolding itemKey itemHash itemDigest itemSpan recordSpan keyNo digestIn recordNo
+    → firstOver n (freshKey (itemKey (Records (recordsOffset h)) s pairs) (itemPlace (Records (recordsOffset h)))) ≡ firstOver n (freshKey (keyNo v3 s h) (recordPlace v3 h))
+unfolding itemKey itemPlace itemHash itemDigest itemSpan recordSpan keyNo digestIn recordNo
 same-keys pairs s h n = refl
 
 by-verdict : (v : Verdict) (P : Type 0) → (v ≡ Accepted → P) → ((x : Refusal) → v ≡ Refused x → P) → P
@@ -85,11 +86,11 @@ module _ (pairs s : List ℕ) (h : Header) where
         let q : Largest v ≡ Largest (largestBelow (recordCount h) (visibilityNo v3 s h)) = e ∙ rw all-passed in
         cc
 
-    pub shown-wrong : (v ≡ h .visibility → ⊥) → Refused Visibility ≡ contentsVerdict pairs s h
+    pub shown-wrong : (v ≡ h .visibility → ⊥) → Refused (refusal Visibility 0) ≡ contentsVerdict pairs s h
     unfolding contentsVerdict visibilityVerdict
     shown-wrong d = rw (all-passed, ← largest-is, ne-eqb (h .visibility) v (λ q. d (sym q)))
 
-    pub keys-told : {w : Verdict} → v ≡ h .visibility → w ≡ firstOver (recordCount h) (freshKey (itemKey (Records (recordsOffset h)) s pairs))
+    pub keys-told : {w : Verdict} → v ≡ h .visibility → w ≡ firstOver (recordCount h) (freshKey (itemKey (Records (recordsOffset h)) s pairs) (itemPlace (Records (recordsOffset h))))
         → w ≡ contentsVerdict pairs s h
     unfolding contentsVerdict visibilityVerdict
     keys-told d f = f ∙ same-keys pairs s h (recordCount h) ∙ rw (all-passed, ← largest-is, eq-eqb (h .visibility) v (sym d))
@@ -106,9 +107,9 @@ unfolding digestVerdict
 digest-end pairs h r k e =
     let at = r .«digest_offset» .0 in
     let end = digestsOffset h + digestsSize h in
-    let a = held (allows pairs (r .«hash_id») (r .«digest_length»)) (Digest k) _ e in
-    let b = held (leb (digestsOffset h) at) (Digest k) _ (a .1) in
-    leb-true (at + r .«digest_length») end (must-accepted (leb (at + r .«digest_length») end) (Digest k) .0 (b .1))
+    let a = held (allows pairs (r .«hash_id») (r .«digest_length»)) (refusal Digest k) _ e in
+    let b = held (leb (digestsOffset h) at) (refusal Digest k) _ (a .1) in
+    leb-true (at + r .«digest_length») end (must-accepted (leb (at + r .«digest_length») end) (refusal Digest k) .0 (b .1))
 
 record-digest : (pairs s : List ℕ) (h : Header) (k : ℕ) → recordVerdict v3 pairs s h k ≡ Accepted
     → digestVerdict pairs h (recordNo v3 s h k) k ≡ Accepted
@@ -151,12 +152,12 @@ module _ (pairs s : List ℕ) (h : Header) where
   header-pass e f = f ∙ sym (in-parts ∙ rw e)
 
 module _ (pairs s : List ℕ) where
-  pub too-small : length s < 136 → Refused Size ≡ segmentVerdict v3 pairs s
+  pub too-small : length s < 136 → Refused (refusal Size 0) ≡ segmentVerdict v3 pairs s
   unfolding segmentVerdict sizeVerdict
   too-small a = simp tests
 
   module _ (a : 136 ≤ length s) where
-    pub too-large : 1073741824 < length s → Refused Size ≡ segmentVerdict v3 pairs s
+    pub too-large : 1073741824 < length s → Refused (refusal Size 0) ≡ segmentVerdict v3 pairs s
     unfolding segmentVerdict sizeVerdict
     too-large b = simp tests
 
@@ -164,7 +165,7 @@ module _ (pairs s : List ℕ) where
     unfolding segmentVerdict sizeVerdict
     sized h b e f = f ∙ ap (segmentRules v3 pairs s) e ∙ simp tests
 
-pub table-bad : (pairs s : List ℕ) → goodTable pairs ≡ false → checkAnswer (Refused TableWrong) ≡ checkOf pairs s
+pub table-bad : (pairs s : List ℕ) → goodTable pairs ≡ false → checkAnswer (Refused (refusal TableWrong 0)) ≡ checkOf pairs s
 unfolding checkOf checked tableVerdict
 table-bad pairs s e = rw e
 
@@ -182,8 +183,8 @@ pub record Sound (pairs s : List ℕ) : Type 0 where
 sized-so : (n : ℕ) → sizeVerdict n ≡ Accepted → (136 ≤ n) × (n ≤ 1073741824)
 unfolding sizeVerdict
 sized-so n e =
-    let a = held (leb 136 n) Size _ e in
-    (leb-true 136 n (a .0), leb-true n 1073741824 (must-accepted (leb n 1073741824) Size .0 (a .1)))
+    let a = held (leb 136 n) (refusal Size 0) _ e in
+    (leb-true 136 n (a .0), leb-true n 1073741824 (must-accepted (leb n 1073741824) (refusal Size 0) .0 (a .1)))
 
 contents-of : (pairs s : List ℕ) (h : Header) → bodyRules pairs s h ≡ Accepted → firstOver (recordCount h) (recordVerdict v3 pairs s h) ≡ Accepted
 unfolding bodyRules contentsVerdict

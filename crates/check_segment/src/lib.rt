@@ -7,10 +7,11 @@ ghost use Rattle.segment.specs.Format.{v3};
 ghost use Rattle.segment.specs.Check.{segmentRules, segmentVerdict, checkOf};
 ghost use Rattle.check_header.specs.HeaderRules.{Laid};
 ghost use Rattle.check_segment.specs.SegmentParts.{contentsVerdict, bodyRules};
-use key::Kind;
-use check_records::Passed;
 use answer::Refusal;
+use answer::Rule;
 use answer::Verdict;
+use check_records::Passed;
+use key::Kind;
 use segment::footer::Footer;
 use segment::header::Header;
 
@@ -30,7 +31,7 @@ fn check_contents(pairs: &[u64], seg: &[u8], h: Header) -> Verdict
         }
         Passed::Largest(v) => {
             if v != h.visibility {
-                return Verdict::Refused(Refusal::Visibility);
+                return Verdict::Refused(Refusal(Rule::Visibility, 0));
             }
         }
     }
@@ -74,10 +75,10 @@ pub fn check_segment(pairs: &[u64], seg: &[u8]) -> Verdict
     ensures { λ r. ⌜ r ≡ segmentVerdict v3 (now (pairs .entry)) (now (seg .entry)) ⌝ }
 {
     if seg.len() < LEAST {
-        return Verdict::Refused(Refusal::Size);
+        return Verdict::Refused(Refusal(Rule::Size, 0));
     }
     if LIMIT < seg.len() {
-        return Verdict::Refused(Refusal::Size);
+        return Verdict::Refused(Refusal(Rule::Size, 0));
     }
     check_rules(pairs, seg, Header::of(seg))
 }
@@ -86,7 +87,7 @@ pub fn check(pairs: &[u64], seg: &[u8]) -> Verdict
     ensures { λ r. ⌜ checkAnswer r ≡ checkOf (now (pairs .entry)) (now (seg .entry)) ⌝ }
 {
     if !table::good(pairs) {
-        return Verdict::Refused(Refusal::Table);
+        return Verdict::Refused(Refusal(Rule::Table, 0));
     }
     let numbers = table::copied(pairs);
     let count = pairs.len();

@@ -6,11 +6,13 @@ use mathlib.Core.List.{List}
 use native.Mathlib.Omega.{arith}
 use lib.ListN.{length, getD, take, drop}
 use Rattle.numbers.specs.Numbers.{numAt}
-use Rattle.segment.specs.Format.{recordOf}
+use Rattle.segment.specs.Format.{v3, recordOf}
+use Rattle.segment.specs.Check.{placeFrom}
+use Rattle.segment.specs.Write.{entryPlace}
 use Rattle.key.specs.declared.Kind.{Kind}
 use Rattle.key.specs.declared.Kind.the-variants.{Records, Entries}
 use Rattle.key.specs.declared.Span.{Span}
-use Rattle.key.specs.Items.{recordSpan, entrySpan, itemHash, itemSpan, itemDigest, Stands, Item}
+use Rattle.key.specs.Items.{recordSpan, entrySpan, itemHash, itemSpan, itemDigest, itemPlace, Stands, Item}
 
 module _ (kind : Kind) (bytes list : List ℕ) (k : ℕ) where
   pub record-stands : (at : ℕ) → kind ≡ Records at → Item kind bytes list k → at + 48 * k + 48 ≤ length bytes
@@ -47,3 +49,13 @@ module _ (kind : Kind) (bytes list : List ℕ) (k : ℕ) where
     held =
         let n : r .start + r .size - r .start ≡ r .size = omega arith in
         rw (n, e)
+
+-- ---- where it is refused
+
+pub record-place : (kind : Kind) (k first : ℕ) {r : ℕ} → kind ≡ Records first → r ≡ placeFrom v3 first k → r ≡ itemPlace kind k
+unfolding itemPlace
+record-place kind k first e h = rw e h
+
+pub entry-place : (kind : Kind) (k : ℕ) {r : ℕ} → kind ≡ Entries → r ≡ entryPlace k → r ≡ itemPlace kind k
+unfolding itemPlace
+entry-place kind k e h = rw e h

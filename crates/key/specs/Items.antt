@@ -2,6 +2,7 @@
 -- run of digest bytes; the list is not read for records, and holds the entries.
 --   itemHash, itemSpan   an item's hash id, and where its digest lies in the bytes
 --   itemDigest, itemKey  its digest, and its key
+--   itemPlace            the place of a refusal of an item
 --   Item, Items          one item, and each of n items, can be read
 -- Assumes nothing: these are definitions.
 use Prim.Native.Nat.{ℕ, _+_, _*_, _≤_, _<_}
@@ -9,6 +10,8 @@ use mathlib.Core.List.{List}
 use lib.ListN.{length, getD, take, drop}
 use Rattle.segment.specs.Format.{v3, recordOf}
 use Rattle.segment.specs.Keys.{keyOf}
+use Rattle.segment.specs.Check.{placeFrom}
+use Rattle.segment.specs.Write.{entryPlace}
 use Rattle.key.specs.declared.Kind.{Kind}
 use Rattle.key.specs.declared.Kind.the-variants.{Records, Entries}
 use Rattle.key.specs.declared.Span.{Span}
@@ -33,6 +36,11 @@ itemDigest kind bytes list k = take (itemSpan kind bytes list k .size) (drop (it
 
 unfoldable pub itemKey : Kind → List ℕ → List ℕ → ℕ → List ℕ
 itemKey kind bytes list k = keyOf (itemHash kind bytes list k) (itemDigest kind bytes list k)
+
+-- the place of a refusal of an item
+unfoldable pub itemPlace : Kind → ℕ → ℕ
+itemPlace (Records first) k = placeFrom v3 first k
+itemPlace Entries k = entryPlace k
 
 -- the item itself stands in its source
 unfoldable pub Stands : Kind → List ℕ → List ℕ → ℕ → Type 0

@@ -3,7 +3,7 @@
 ghost use mathlib.Core.Path.{_≡_};
 ghost use Prim.Native.Nat.{_+_, _≤_};
 ghost use lib.ListN.{length};
-ghost use Rattle.key.specs.Items.{recordSpan, entrySpan, Item, itemHash, itemSpan, itemDigest};
+ghost use Rattle.key.specs.Items.{recordSpan, entrySpan, Item, itemHash, itemSpan, itemDigest, itemPlace};
 use field_record::record;
 use segment::record::Record;
 
@@ -66,4 +66,14 @@ pub fn digest<'a>(kind: Kind, bytes: &'a [u8], list: &[u64], k: usize) -> &'a [u
     let start = span.start;
     let end = start + span.size;
     &bytes[start..end]
+}
+
+// The place of a refusal of an item.
+pub fn place_of(kind: Kind, k: usize) -> u64
+    ensures { λ r. ⌜ r ≡ itemPlace kind k ⌝ }
+{
+    match kind {
+        Kind::Records(first) => segment::record::place_of(first, k),
+        Kind::Entries => segment::entry::place_of(k),
+    }
 }

@@ -12,7 +12,7 @@ use Rattle.answer.specs.declared.Verdict.the-variants.{Accepted}
 use Rattle.answer.specs.Rules.{firstOver}
 use Rattle.lists.proofs.Tests.{by-test, and-iff}
 use Rattle.lists.specs.Lists.{lexLeq}
-use Rattle.segment.specs.Keys.{freshKey}
+use Rattle.segment.specs.Keys.{NoKeyTwice}
 use Rattle.key.specs.declared.Kind.{Kind}
 use Rattle.key.specs.Items.{itemKey}
 use Rattle.key.specs.ItemOrder.{itemLeq}
@@ -127,8 +127,8 @@ module _ (kind : Kind) (bytes list : List ℕ) (n : ℕ) (c : climbs (itemLeq ki
   never-same i j h l e =
       true≢false (sym (ap (λ (k : List ℕ). lexLeq (key i) k) (sym e) ∙ lex-refl (key i)) ∙ apart (itemLeq kind bytes list) (item-order kind bytes list) n i j c h l)
 
-  pub none-twice : firstOver n (freshKey (itemKey kind bytes list)) ≡ Accepted
-  none-twice = keys-book key n .1 (λ i j a b e.
+  pub none-twice : NoKeyTwice (itemKey kind bytes list) n
+  none-twice i j a b e =
       let not-after : ¬ (j < i) = λ l. never-same i j a l e in
       let not-before : ¬ (i < j) = λ l. never-same j i b l (sym e) in
-      omega arith)
+      omega arith

@@ -16,11 +16,10 @@ use Rattle.key_duplicate.specs.Known.{Known}
 
 pub known-by-order : (kind : Kind) (bytes list : List ℕ) (n k : ℕ) → k ≡ sortedFall (itemLeq kind bytes list) n → Known (itemKey kind bytes list) k n
 known-by-order kind bytes list n k e =
-    let fall = sortedFall (itemLeq kind bytes list) n in
     rw e (record {
       within = fall-within (itemLeq kind bytes list) n;
-      fresh = keys-book (itemKey kind bytes list) fall .1 (below-differ kind bytes list n);
+      fresh = below-differ kind bytes list n;
     })
 
 pub known-none : (key : ℕ → List ℕ) (n : ℕ) → Known key 0 n
-known-none key n = record { within = omega arith; fresh = first-none (freshKey key) }
+known-none key n = record { within = omega arith; fresh = λ i j a b e. absurd (omega arith) }

@@ -7,11 +7,12 @@ ghost use mathlib.Core.Path.{_≡_};
 ghost use Prim.Native.Nat.{_≤_};
 ghost use Rattle.answer.specs.Rules.{firstOver};
 ghost use Rattle.segment.specs.Keys.{freshKey};
-ghost use Rattle.key.specs.Items.{Items, itemKey};
+ghost use Rattle.key.specs.Items.{Items, itemKey, itemPlace};
 ghost use Rattle.key_duplicate.specs.Known.{Known};
-use key::Kind;
 use answer::Refusal;
+use answer::Rule;
 use answer::Verdict;
+use key::Kind;
 
 // Up to this many items the scan over all pairs is done sooner than a sort.
 const FEW: usize = 40;
@@ -21,7 +22,7 @@ const FEW: usize = 40;
 fn scan_keys(kind: Kind, bytes: &[u8], list: &[u64], known: usize, n: usize) -> Verdict
     requires { ⌜ Items kind (now bytes) (now list) n ⌝ }
     requires { ⌜ Known (itemKey kind (now bytes) (now list)) known n ⌝ }
-    ensures { λ r. ⌜ r ≡ firstOver n (freshKey (itemKey kind (now (bytes .entry)) (now (list .entry)))) ⌝ }
+    ensures { λ r. ⌜ r ≡ firstOver n (freshKey (itemKey kind (now (bytes .entry)) (now (list .entry))) (itemPlace kind)) ⌝ }
 {
     let mut i = known;
     let found = 'pairs: loop {
@@ -38,7 +39,7 @@ fn scan_keys(kind: Kind, bytes: &[u8], list: &[u64], known: usize, n: usize) -> 
         i += 1;
     };
     if found < n {
-        return Verdict::Refused(Refusal::Duplicate(found as u64));
+        return Verdict::Refused(Refusal(Rule::Duplicate, key::place_of(kind, found)));
     }
     Verdict::Accepted
 }
@@ -47,7 +48,7 @@ fn scan_keys(kind: Kind, bytes: &[u8], list: &[u64], known: usize, n: usize) -> 
 pub fn check_keys(kind: Kind, bytes: &[u8], list: &[u64], n: usize) -> Verdict
     requires { ⌜ Items kind (now bytes) (now list) n ⌝ }
     requires { ⌜ n ≤ 65536 ⌝ }
-    ensures { λ r. ⌜ r ≡ firstOver n (freshKey (itemKey kind (now (bytes .entry)) (now (list .entry)))) ⌝ }
+    ensures { λ r. ⌜ r ≡ firstOver n (freshKey (itemKey kind (now (bytes .entry)) (now (list .entry))) (itemPlace kind)) ⌝ }
 {
     if n <= FEW {
         return scan_keys(kind, bytes, list, 0, n);

@@ -8,9 +8,9 @@ ghost use Rattle.segment.specs.Meaning.{meaningOf};
 ghost use Rattle.list_place.specs.Pieces.{filled};
 ghost use Rattle.list_line.specs.Stopped.{Stopped};
 ghost use Rattle.list_text.specs.Started.{Started};
+use answer::Verdict;
 use list_line::Stop;
 use list_place::Place;
-use answer::Verdict;
 use segment::header::Header;
 
 // What there is to write of a segment: its listing from the first place on, or one line of so many bytes that was put.

@@ -10,13 +10,13 @@ use native.Mathlib.Numerals.{add-one}
 use native.Mathlib.Omega.{arith}
 use lib.ListN.{length}
 use Rattle.answer.specs.declared.Refusal.{Refusal}
-use Rattle.answer.specs.declared.Refusal.the-variants.{Key, Table as TableWrong}
+use Rattle.answer.specs.declared.Rule.the-variants.{Key, Table as TableWrong}
 use Rattle.answer.specs.declared.Verdict.the-variants.{Accepted, Refused as Stopped}
 use Rattle.answer.specs.declared.Source.{Source}
 use Rattle.answer.specs.declared.Source.the-variants.{None, Domain}
 use Rattle.answer.specs.declared.Found.{Found}
 use Rattle.answer.specs.declared.Found.the-variants.{Absent, Gone, Present, Refused}
-use Rattle.answer.specs.Answers.{foundAnswer}
+use Rattle.answer.specs.Answers.{refusal, foundAnswer}
 use Rattle.lists.proofs.Tests.{tests, was-true, was-false}
 use Rattle.segment.specs.declared.header.Header.{Header}
 use Rattle.segment.specs.declared.record.Record.{Record}
@@ -170,7 +170,7 @@ module _ (pairs s : List ℕ) (h : Header) (hash : ℕ) (digest : List ℕ) (k :
 -- ---- the whole
 
 module _ (pairs s : List ℕ) (hash : ℕ) (digest : List ℕ) where
-  pub unknown-key : (b : Bool) → b ≡ allows pairs hash (length digest) → not b ≡ true → Refused Key ≡ foundUnder pairs s hash digest
+  pub unknown-key : (b : Bool) → b ≡ allows pairs hash (length digest) → not b ≡ true → Refused (refusal Key 0) ≡ foundUnder pairs s hash digest
   unfolding foundUnder keyVerdict
   unknown-key b e f = rw (was-false e f)
 
@@ -184,7 +184,7 @@ module _ (pairs s : List ℕ) (hash : ℕ) (digest : List ℕ) where
     unfolding foundUnder keyVerdict
     segment-pass g h = rw (was-true e f, g) h
 
-  pub table-bad : goodTable pairs ≡ false → foundAnswer (Refused TableWrong) ≡ lookUpOf pairs s hash digest
+  pub table-bad : goodTable pairs ≡ false → foundAnswer (Refused (refusal TableWrong 0)) ≡ lookUpOf pairs s hash digest
   unfolding lookUpOf lookedUp tableVerdict
   table-bad e = rw e
 

@@ -8,11 +8,12 @@ ghost use Rattle.segment.specs.Keys.{keyOf};
 ghost use Rattle.segment.specs.Check.{segmentVerdict};
 ghost use Rattle.segment.specs.Meaning.{sourceOf};
 ghost use Rattle.segment.specs.LookUp.{recordFound, foundIn, foundUnder, lookUpOf};
-use key::Kind;
 use answer::Found;
 use answer::Refusal;
+use answer::Rule;
 use answer::Source;
 use answer::Verdict;
+use key::Kind;
 use segment::header::Header;
 use segment::record::Record;
 
@@ -70,7 +71,7 @@ fn look_up_under(pairs: &[u64], seg: &[u8], hash: u64, digest: &[u8]) -> Found
     ensures { λ r. ⌜ r ≡ foundUnder (now (pairs .entry)) (now (seg .entry)) hash (now (digest .entry)) ⌝ }
 {
     if !table::allows(pairs, hash, digest.len() as u64) {
-        return Found::Refused(Refusal::Key);
+        return Found::Refused(Refusal(Rule::Key, 0));
     }
     match check_segment::check_segment(pairs, seg) {
         Verdict::Refused(r) => {
@@ -85,7 +86,7 @@ pub fn look_up(pairs: &[u64], seg: &[u8], hash: u64, digest: &[u8]) -> Found
     ensures { λ r. ⌜ foundAnswer r ≡ lookUpOf (now (pairs .entry)) (now (seg .entry)) hash (now (digest .entry)) ⌝ }
 {
     if !table::good(pairs) {
-        return Found::Refused(Refusal::Table);
+        return Found::Refused(Refusal(Rule::Table, 0));
     }
     let numbers = table::copied(pairs);
     let count = pairs.len();

@@ -5,7 +5,8 @@ use mathlib.Core.Path.{_≡_, refl, sym, ap, _∙_}
 use mathlib.Core.List.{List, [], _∷_, _++_}
 use native.Mathlib.Omega.{arith}
 use lib.ListN.{length, drop, length-map}
-use Rattle.answer.specs.declared.Refusal.the-variants.{Room, Large}
+use Rattle.answer.specs.declared.Rule.the-variants.{Room, Large}
+use Rattle.answer.specs.Answers.{refusal}
 use Rattle.answer.specs.declared.Written.the-variants.{Done, Refused}
 use Rattle.lists.proofs.Tests.{tests}
 use Rattle.segment.specs.declared.header.Header.{Header}
@@ -126,11 +127,11 @@ module _ (kind : Kind) (bytes list extents : List ℕ) where
 -- ---- the answers
 
 module _ (form out : List ℕ) where
-  pub too-large : 1073741824 < length form → Wrote form out out (Refused Large)
+  pub too-large : 1073741824 < length form → Wrote form out out (Refused (refusal Large 0))
   unfolding settled roomVerdict
   too-large h = record { answer = simp tests; output = refl }
 
-  pub no-room : length form ≤ 1073741824 → length out < length form → Wrote form out out (Refused Room)
+  pub no-room : length form ≤ 1073741824 → length out < length form → Wrote form out out (Refused (refusal Room 0))
   unfolding settled roomVerdict
   no-room h l = record { answer = simp tests; output = refl }
 

@@ -8,11 +8,12 @@ ghost use Rattle.segment.specs.Format.{v3, recordsOffset};
 ghost use Rattle.segment.specs.Tidy.{lacking, formHeader, formOf};
 ghost use Rattle.put_item.specs.Lines.{itemRows, Lines};
 ghost use Rattle.put_form.specs.Emit.{Moderate, headerFor, Plan, sectionsUnder, bodyUnder, Wrote};
+use answer::Refusal;
+use answer::Rule;
+use answer::Written;
+use field_record::FileOffset;
 use key::Kind;
 use put_item::Sizes;
-use field_record::FileOffset;
-use answer::Refusal;
-use answer::Written;
 use segment::extent::Extent;
 use segment::footer::Footer;
 use segment::header;
@@ -153,16 +154,16 @@ pub fn emit(
 {
     let size = bloom.len() as u64;
     if segment::LIMIT < size {
-        return Written::Refused(Refusal::Large);
+        return Written::Refused(Refusal(Rule::Large, 0));
     }
     let s = put_item::measure(kind, bytes, list, numbers);
     let h = header_for(t, size, numbers.len() as u64, s);
     let n = h.extents_offset.0 + Extent::LONG * h.extent_count + Footer::LONG;
     if segment::LIMIT < n {
-        return Written::Refused(Refusal::Large);
+        return Written::Refused(Refusal(Rule::Large, 0));
     }
     if (out.len() as u64) < n {
-        return Written::Refused(Refusal::Room);
+        return Written::Refused(Refusal(Rule::Room, 0));
     }
     let end = n as usize;
     put_form(

@@ -5,8 +5,8 @@ ghost use Prim.Native.Nat.{_≤_};
 ghost use lib.ListN.{length};
 ghost use Rattle.put_form.specs.Emit.{Wrote};
 ghost use Rattle.put_tidy.specs.ItemsForm.{AllLines, itemsForm};
-use key::Kind;
 use answer::Written;
+use key::Kind;
 use segment::header::Heading;
 
 // As many items as there are numbers, written in tidy order.

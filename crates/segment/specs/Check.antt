@@ -9,7 +9,7 @@ use mathlib.Core.List.{List, [], _∷_}
 use lib.Dec.{leb, eqb}
 use lib.ListN.{length, take, drop}
 use Rattle.crc64.specs.Crc.{crc}
-use Rattle.answer.specs.declared.Refusal.the-variants.{
+use Rattle.answer.specs.declared.Rule.the-variants.{
   Size,
   Magic,
   Version,
@@ -24,7 +24,7 @@ use Rattle.answer.specs.declared.Refusal.the-variants.{
 }
 use Rattle.answer.specs.declared.Verdict.{Verdict}
 use Rattle.answer.specs.Rules.{must, _then_, firstOver}
-use Rattle.answer.specs.Answers.{Answer, checkAnswer}
+use Rattle.answer.specs.Answers.{Answer, refusal, checkAnswer}
 use Rattle.segment.specs.declared.header.Header.{Header}
 use Rattle.segment.specs.declared.record.Record.{Record}
 use Rattle.segment.specs.declared.extent.Extent.{Extent}
@@ -56,18 +56,18 @@ use Rattle.segment.specs.Keys.{keyOf, freshKey}
 
 -- 1: shorter than 136 or longer than the limit
 unfoldable pub sizeVerdict : ℕ → Verdict
-sizeVerdict n = must (leb leastFile n) Size then must (leb n fileLimit) Size
+sizeVerdict n = must (leb leastFile n) (refusal Size 0) then must (leb n fileLimit) (refusal Size 0)
 
 -- 2, 3, and 4: header size, federation version, reserved or flags wrong, or visibility above 1
 unfoldable pub headVerdict : Shape → Header → Verdict
 headVerdict sh h =
-    must (eqb (h .magic) (sh .magic)) Magic
-    then must (eqb (h .version) (sh .version)) Version
-    then must (eqb (h .«header_size») headerSize) HeaderWrong
-    then must (eqb (h .federation) 0) HeaderWrong
-    then must (eqb (h .reserved) 0) HeaderWrong
-    then must (eqb (h .flags) 0) HeaderWrong
-    then must (leb (h .visibility) 1) HeaderWrong
+    must (eqb (h .magic) (sh .magic)) (refusal Magic 0)
+    then must (eqb (h .version) (sh .version)) (refusal Version 0)
+    then must (eqb (h .«header_size») headerSize) (refusal HeaderWrong 0)
+    then must (eqb (h .federation) 0) (refusal HeaderWrong 0)
+    then must (eqb (h .reserved) 0) (refusal HeaderWrong 0)
+    then must (eqb (h .flags) 0) (refusal HeaderWrong 0)
+    then must (leb (h .visibility) 1) (refusal HeaderWrong 0)
 
 -- where the bloom bytes of a size begin: 0 if there are none, else 112
 abbrev pub bloomPlace : ℕ → ℕ
@@ -76,55 +76,62 @@ bloomPlace size = cond (eqb size 0) 0 headerSize
 -- 5: the layout rules of a header over a file of n bytes, and at most 65,536 records
 unfoldable pub layoutVerdict : Shape → Header → ℕ → Verdict
 layoutVerdict sh h n =
-    must (eqb (bloomOffset h) (bloomPlace (bloomSize h))) Layout
-    then must (eqb (bloomSize h % 8) 0) Layout
-    then must (leb (recordCount h) recordLimit) Layout
-    then must (eqb (recordsOffset h) (headerSize + bloomSize h)) Layout
-    then must (eqb (digestsOffset h) (recordsOffset h + sh .recordSize * recordCount h)) Layout
-    then must (eqb (digestsSize h % 8) 0) Layout
-    then must (eqb (extentsOffset h) (digestsOffset h + digestsSize h)) Layout
-    then must (eqb n (extentsOffset h + extentSize * extentCount h + footerSize)) Layout
+    must (eqb (bloomOffset h) (bloomPlace (bloomSize h))) (refusal Layout 0)
+    then must (eqb (bloomSize h % 8) 0) (refusal Layout 0)
+    then must (leb (recordCount h) recordLimit) (refusal Layout 0)
+    then must (eqb (recordsOffset h) (headerSize + bloomSize h)) (refusal Layout 0)
+    then must (eqb (digestsOffset h) (recordsOffset h + sh .recordSize * recordCount h)) (refusal Layout 0)
+    then must (eqb (digestsSize h % 8) 0) (refusal Layout 0)
+    then must (eqb (extentsOffset h) (digestsOffset h + digestsSize h)) (refusal Layout 0)
+    then must (eqb n (extentsOffset h + extentSize * extentCount h + footerSize)) (refusal Layout 0)
 
 -- 6: the checksum covers every byte before the footer
 unfoldable pub checksumVerdict : List ℕ → Verdict
 checksumVerdict s =
-    must (eqb (footerOf s (length s - footerSize) .checksum) (crc (take (length s - footerSize) s))) Checksum
+    must (eqb (footerOf s (length s - footerSize) .checksum) (crc (take (length s - footerSize) s))) (refusal Checksum 0)
+
+-- the place of a refusal of record k, of records that begin at a place: its number
+abbrev pub placeFrom : Shape → ℕ → ℕ → ℕ
+placeFrom sh first k = k
+
+abbrev pub recordPlace : Shape → Header → ℕ → ℕ
+recordPlace sh h k = placeFrom sh (recordsOffset h) k
 
 -- 7: reserved, flags, marks, visibility, source or domain wrong
 unfoldable pub marksVerdict : Header → Record → ℕ → Verdict
-marksVerdict h r k =
-    must (eqb (r .reserved) 0) (RecordWrong k)
-    then must (eqb (r .«reserved_last») 0) (RecordWrong k)
-    then must (leb (r .flags) 1) (RecordWrong k)
-    then must (leb (r .visibility) 1) (RecordWrong k)
-    then must (leb (r .imported) 1) (RecordWrong k)
-    then must (eqb (r .imported) 1 || eqb (r .source) 0) (RecordWrong k)
-    then must (eqb (r .domain) (h .domain)) (RecordWrong k)
+marksVerdict h r p =
+    must (eqb (r .reserved) 0) (refusal RecordWrong p)
+    then must (eqb (r .«reserved_last») 0) (refusal RecordWrong p)
+    then must (leb (r .flags) 1) (refusal RecordWrong p)
+    then must (leb (r .visibility) 1) (refusal RecordWrong p)
+    then must (leb (r .imported) 1) (refusal RecordWrong p)
+    then must (eqb (r .imported) 1 || eqb (r .source) 0) (refusal RecordWrong p)
+    then must (eqb (r .domain) (h .domain)) (refusal RecordWrong p)
 
 -- 8: unknown hash id, wrong length, or outside its section
 unfoldable pub digestVerdict : List ℕ → Header → Record → ℕ → Verdict
-digestVerdict pairs h r k =
-    must (allows pairs (r .«hash_id») (r .«digest_length»)) (Digest k)
-    then must (leb (digestsOffset h) (r .«digest_offset» .0)) (Digest k)
-    then must (leb (r .«digest_offset» .0 + r .«digest_length») (digestsOffset h + digestsSize h)) (Digest k)
+digestVerdict pairs h r p =
+    must (allows pairs (r .«hash_id») (r .«digest_length»)) (refusal Digest p)
+    then must (leb (digestsOffset h) (r .«digest_offset» .0)) (refusal Digest p)
+    then must (leb (r .«digest_offset» .0 + r .«digest_length») (digestsOffset h + digestsSize h)) (refusal Digest p)
 
 abbrev pub isGone : Record → Bool
 isGone r = eqb (r .flags) 1
 
 -- 9: gone with extents offset or count not 0
 unfoldable pub goneExtents : Record → ℕ → Verdict
-goneExtents r k = must (eqb (r .«extents_offset» .0) 0) (Extents k) then must (eqb (r .«extent_count») 0) (Extents k)
+goneExtents r p = must (eqb (r .«extents_offset» .0) 0) (refusal Extents p) then must (eqb (r .«extent_count») 0) (refusal Extents p)
 
 -- not gone with none, or misplaced
 unfoldable pub liveExtents : Header → Record → ℕ → Verdict
-liveExtents h r k =
-    must (leb 1 (r .«extent_count»)) (Extents k)
-    then must (leb (extentsOffset h) (r .«extents_offset» .0)) (Extents k)
-    then must (eqb ((r .«extents_offset» .0 - extentsOffset h) % extentSize) 0) (Extents k)
-    then must (leb (r .«extents_offset» .0 + extentSize * r .«extent_count») (extentsOffset h + extentSize * extentCount h)) (Extents k)
+liveExtents h r p =
+    must (leb 1 (r .«extent_count»)) (refusal Extents p)
+    then must (leb (extentsOffset h) (r .«extents_offset» .0)) (refusal Extents p)
+    then must (eqb ((r .«extents_offset» .0 - extentsOffset h) % extentSize) 0) (refusal Extents p)
+    then must (leb (r .«extents_offset» .0 + extentSize * r .«extent_count») (extentsOffset h + extentSize * extentCount h)) (refusal Extents p)
 
 unfoldable pub extentsVerdict : Header → Record → ℕ → Verdict
-extentsVerdict h r k = cond (isGone r) (goneExtents r k) (liveExtents h r k)
+extentsVerdict h r p = cond (isGone r) (goneExtents r p) (liveExtents h r p)
 
 -- an extent's offset + length is at most 4,294,967,296
 abbrev pub extentFits : Extent → Bool
@@ -140,23 +147,23 @@ sumLengths (e ∷ es) = e .length + sumLengths es
 
 -- 10: an extent passes 2^32, the sum differs or passes the limit
 unfoldable pub liveTotal : Shape → List Extent → ℕ → ℕ → Verdict
-liveTotal sh es total k =
-    must (allFit es) (Total k)
-    then must (leb (sumLengths es) (sh .totalLimit)) (Total k)
-    then must (eqb (sumLengths es) total) (Total k)
+liveTotal sh es total p =
+    must (allFit es) (refusal Total p)
+    then must (leb (sumLengths es) (sh .totalLimit)) (refusal Total p)
+    then must (eqb (sumLengths es) total) (refusal Total p)
 
 -- or gone with total not 0
 unfoldable pub totalVerdict : Shape → List ℕ → Record → ℕ → Verdict
-totalVerdict sh s r k =
-    cond (isGone r) (must (eqb (r .«total_length») 0) (Total k)) (liveTotal sh (extentsIn s r) (r .«total_length») k)
+totalVerdict sh s r p =
+    cond (isGone r) (must (eqb (r .«total_length») 0) (refusal Total p)) (liveTotal sh (extentsIn s r) (r .«total_length») p)
 
--- one record, which is number k
+-- one record, which is refused at place p
 unfoldable pub recordRules : Shape → List ℕ → List ℕ → Header → Record → ℕ → Verdict
-recordRules sh pairs s h r k =
-    marksVerdict h r k then digestVerdict pairs h r k then extentsVerdict h r k then totalVerdict sh s r k
+recordRules sh pairs s h r p =
+    marksVerdict h r p then digestVerdict pairs h r p then extentsVerdict h r p then totalVerdict sh s r p
 
 unfoldable pub recordVerdict : Shape → List ℕ → List ℕ → Header → ℕ → Verdict
-recordVerdict sh pairs s h k = recordRules sh pairs s h (recordNo sh s h k) k
+recordVerdict sh pairs s h k = recordRules sh pairs s h (recordNo sh s h k) (recordPlace sh h k)
 
 -- the visibility of record k
 unfoldable pub visibilityNo : Shape → List ℕ → Header → ℕ → ℕ
@@ -169,7 +176,7 @@ largestBelow (suc n) f = max (largestBelow n f) (f n)
 
 -- 11: the header's visibility is the largest of the records', gone ones included
 unfoldable pub visibilityVerdict : Shape → List ℕ → Header → Verdict
-visibilityVerdict sh s h = must (eqb (h .visibility) (largestBelow (recordCount h) (visibilityNo sh s h))) Visibility
+visibilityVerdict sh s h = must (eqb (h .visibility) (largestBelow (recordCount h) (visibilityNo sh s h))) (refusal Visibility 0)
 
 -- the digest of a record, and the key of record k
 unfoldable pub digestIn : List ℕ → Record → List ℕ
@@ -186,7 +193,7 @@ segmentRules sh pairs s h =
     then checksumVerdict s
     then firstOver (recordCount h) (recordVerdict sh pairs s h)
     then visibilityVerdict sh s h
-    then firstOver (recordCount h) (freshKey (keyNo sh s h))
+    then firstOver (recordCount h) (freshKey (keyNo sh s h) (recordPlace sh h))
 
 -- 1 to 12
 unfoldable pub segmentVerdict : Shape → List ℕ → List ℕ → Verdict

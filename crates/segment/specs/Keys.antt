@@ -1,7 +1,7 @@
 -- Document 01: no two records have the same key, hash id and digest bytes; tidy order is by hash id, then by digest bytes
 -- compared as unsigned bytes from the first. A key is one list of numbers.
 --   keyOf         the key of a hash id and a digest
---   freshKey      the rule of place i among keys: it stands nowhere earlier
+--   freshKey      the rule of the i-th of some keys: it stands nowhere earlier; and the place of each, where it is refused
 --   EarlierKey, FirstTwice   a key stands earlier; the lowest place at which one does
 --   NoKeyTwice    no two of n places have the same key
 -- Assumes nothing: these are definitions.
@@ -10,9 +10,10 @@ use mathlib.Core.Path.{_≡_}
 use mathlib.Core.Bool.{Bool, not}
 use mathlib.Core.List.{List, _∷_}
 use Rattle.lists.specs.Lists.{eqList}
-use Rattle.answer.specs.declared.Refusal.the-variants.{Duplicate}
+use Rattle.answer.specs.declared.Rule.the-variants.{Duplicate}
 use Rattle.answer.specs.declared.Verdict.{Verdict}
 use Rattle.answer.specs.Rules.{must, someBelow}
+use Rattle.answer.specs.Answers.{refusal}
 
 abbrev pub keyOf : ℕ → List ℕ → List ℕ
 keyOf hash digest = hash ∷ digest
@@ -20,8 +21,8 @@ keyOf hash digest = hash ∷ digest
 abbrev pub sameKey : (ℕ → List ℕ) → ℕ → ℕ → Bool
 sameKey key i j = eqList (key i) (key j)
 
-unfoldable pub freshKey : (ℕ → List ℕ) → ℕ → Verdict
-freshKey key i = must (not (someBelow i (sameKey key i))) (Duplicate i)
+unfoldable pub freshKey : (ℕ → List ℕ) → (ℕ → ℕ) → ℕ → Verdict
+freshKey key place i = must (not (someBelow i (sameKey key i))) (refusal Duplicate (place i))
 
 -- the key of place k stands at an earlier one
 pub record EarlierKey (key : ℕ → List ℕ) (k : ℕ) : Type 0 where

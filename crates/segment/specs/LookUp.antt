@@ -9,12 +9,12 @@ use Prim.Native.Nat.{ℕ, zero, suc, _*_}
 use mathlib.Core.Bool.{cond}
 use mathlib.Core.List.{List, []}
 use lib.ListN.{length, take, drop}
-use Rattle.answer.specs.declared.Refusal.the-variants.{Key}
+use Rattle.answer.specs.declared.Rule.the-variants.{Key}
 use Rattle.answer.specs.declared.Verdict.{Verdict}
 use Rattle.answer.specs.declared.Found.{Found}
 use Rattle.answer.specs.declared.Found.the-variants.{Absent, Gone, Present, Refused}
 use Rattle.answer.specs.Rules.{must, _then_, after}
-use Rattle.answer.specs.Answers.{Answer, foundAnswer}
+use Rattle.answer.specs.Answers.{Answer, refusal, foundAnswer}
 use Rattle.segment.specs.declared.header.Header.{Header}
 use Rattle.segment.specs.declared.record.Record.{Record}
 use Rattle.segment.specs.Format.{Shape, v3, extentSize, headerOf, recordCount, recordNo}
@@ -26,7 +26,7 @@ use Rattle.segment.specs.Meaning.{sourceOf}
 
 -- 17: hash id unknown or length not the table's
 unfoldable pub keyVerdict : List ℕ → ℕ → List ℕ → Verdict
-keyVerdict pairs hash digest = must (allows pairs hash (length digest)) Key
+keyVerdict pairs hash digest = must (allows pairs hash (length digest)) (refusal Key 0)
 
 -- what is said of a record
 unfoldable pub recordFound : Record → Found

@@ -18,6 +18,7 @@ use Rattle.segment.specs.declared.header.Heading.{Heading}
 use Rattle.segment.specs.declared.record.Record.{Record}
 use Rattle.segment.specs.declared.extent.Extent.{Extent}
 use Rattle.segment.specs.Format.{Shape, headerSize, footerSize, headerOf, footerOf, recordCount, bloomSize, recordNo, extentsIn}
+use Rattle.lists.specs.Lists.{countFrom}
 use Rattle.segment.specs.Keys.{keyOf}
 use Rattle.segment.specs.Check.{isGone, digestIn}
 

@@ -12,14 +12,14 @@ use lib.Dec.{leb, eqb}
 use lib.ListN.{length, drop, replicate}
 use Rattle.numbers.specs.Numbers.{bytesOf}
 use Rattle.crc64.specs.Crc.{crc}
-use Rattle.answer.specs.declared.Refusal.the-variants.{Room, Large}
+use Rattle.answer.specs.declared.Rule.the-variants.{Room, Large}
 use Rattle.answer.specs.declared.Source.{Source}
 use Rattle.answer.specs.declared.Source.the-variants.{None, Domain}
 use Rattle.answer.specs.declared.Verdict.{Verdict}
 use Rattle.answer.specs.declared.Written.{Written}
 use Rattle.answer.specs.declared.Written.the-variants.{Done, Refused}
 use Rattle.answer.specs.Rules.{must, _then_, after}
-use Rattle.answer.specs.Answers.{Answer, writtenAnswer}
+use Rattle.answer.specs.Answers.{Answer, refusal, writtenAnswer}
 use Rattle.segment.specs.declared.header.Header.{Header}
 use Rattle.segment.specs.declared.header.Heading.{Heading}
 use Rattle.segment.specs.declared.record.Record.{Record}
@@ -208,7 +208,7 @@ tidyForm sh m = formOf sh (m .heading) (m .bloom) (sortBy rowLeq (m .records))
 
 -- 16: the result passes the limit; 13: the output is shorter than the result
 unfoldable pub roomVerdict : ℕ → ℕ → Verdict
-roomVerdict n room = must (leb n fileLimit) Large then must (leb n room) Room
+roomVerdict n room = must (leb n fileLimit) (refusal Large 0) then must (leb n room) (refusal Room 0)
 
 -- what stands in the output afterwards: the result and the bytes that stood after it, or what stood there before
 abbrev pub outputAfter : Written → List ℕ → List ℕ → List ℕ

@@ -12,10 +12,11 @@ use mathlib.Core.Bool.{Bool, true, cond, _&&_, _||_}
 use mathlib.Core.List.{List, [], _∷_, map}
 use lib.Dec.{leb, ltb, eqb}
 use lib.ListN.{length, getD, take, drop}
-use Rattle.answer.specs.declared.Refusal.the-variants.{Layout, Record, Digest, Extents, Total, List as ListEnd, Large}
+use Rattle.answer.specs.declared.Rule.the-variants.{Layout, Record, Digest, Extents, Total, List as ListEnd, Large}
 use Rattle.answer.specs.declared.Verdict.{Verdict}
 use Rattle.answer.specs.declared.Written.{Written}
 use Rattle.answer.specs.Rules.{must, _then_, firstOver}
+use Rattle.answer.specs.Answers.{refusal}
 use Rattle.segment.specs.declared.header.Heading.{Heading}
 use Rattle.segment.specs.declared.entry.Entry.{Entry}
 use Rattle.segment.specs.declared.extent.Extent.{Extent}
@@ -70,29 +71,29 @@ entryGone e = eqb (e .gone) 1
 
 -- 7: visibility, marks or source wrong, or too wide
 unfoldable pub entryMarks : Entry → ℕ → Verdict
-entryMarks e k =
-    must (leb (e .visibility) 1) (Record k)
-    then must (leb (e .imported) 1) (Record k)
-    then must (leb (e .gone) 1) (Record k)
-    then must (ltb (e .source) 4294967296) (Record k)
-    then must (eqb (e .imported) 1 || eqb (e .source) 0) (Record k)
+entryMarks e p =
+    must (leb (e .visibility) 1) (refusal Record p)
+    then must (leb (e .imported) 1) (refusal Record p)
+    then must (leb (e .gone) 1) (refusal Record p)
+    then must (ltb (e .source) 4294967296) (refusal Record p)
+    then must (eqb (e .imported) 1 || eqb (e .source) 0) (refusal Record p)
 
 -- 15: start + count passes the end of the lent digests or extents
 unfoldable pub entryLists : List ℕ → List ℕ → Entry → ℕ → Verdict
-entryLists digests extents e k =
-    must (leb (e .«digest_start» + e .«digest_length») (length digests)) (ListEnd k)
-    then must (leb (e .«first_extent» + e .«extent_count») (listedExtents extents)) (ListEnd k)
+entryLists digests extents e p =
+    must (leb (e .«digest_start» + e .«digest_length») (length digests)) (refusal ListEnd p)
+    then must (leb (e .«first_extent» + e .«extent_count») (listedExtents extents)) (refusal ListEnd p)
 
 -- 8: unknown hash id, or wrong length; one that is too wide is unknown, or wrong
 unfoldable pub entryDigest : List ℕ → Entry → ℕ → Verdict
-entryDigest pairs e k = must (allows pairs (e .«hash_id») (e .«digest_length»)) (Digest k)
+entryDigest pairs e p = must (allows pairs (e .«hash_id») (e .«digest_length»)) (refusal Digest p)
 
 -- 9: gone with first extent or count not 0; not gone with none; or a count too wide
 unfoldable pub entryPlaces : Entry → ℕ → Verdict
-entryPlaces e k =
+entryPlaces e p =
     cond (entryGone e)
-    (must (eqb (e .«first_extent») 0) (Extents k) then must (eqb (e .«extent_count») 0) (Extents k))
-    (must (leb 1 (e .«extent_count»)) (Extents k) then must (ltb (e .«extent_count») 4294967296) (Extents k))
+    (must (eqb (e .«first_extent») 0) (refusal Extents p) then must (eqb (e .«extent_count») 0) (refusal Extents p))
+    (must (leb 1 (e .«extent_count»)) (refusal Extents p) then must (ltb (e .«extent_count») 4294967296) (refusal Extents p))
 
 -- an extent whose numbers fit their fields, and which lies inside its block
 abbrev pub listedFits : Extent → Bool
@@ -104,19 +105,23 @@ allListedFit (e ∷ es) = listedFits e && allListedFit es
 
 -- 10: a number too wide in an extent, an extent passes 2^32, or the sum passes the limit
 unfoldable pub entryTotal : Shape → List Extent → ℕ → Verdict
-entryTotal sh es k = must (allListedFit es) (Total k) then must (leb (sumLengths es) (sh .totalLimit)) (Total k)
+entryTotal sh es p = must (allListedFit es) (refusal Total p) then must (leb (sumLengths es) (sh .totalLimit)) (refusal Total p)
 
--- one entry, which is number k, over a run of digest bytes and a list of extents
+-- the place of a refusal of entry k: its number
+abbrev pub entryPlace : ℕ → ℕ
+entryPlace k = k
+
+-- one entry, which is refused at place p, over a run of digest bytes and a list of extents
 unfoldable pub entryRules : Shape → List ℕ → List ℕ → List ℕ → Entry → ℕ → Verdict
-entryRules sh pairs digests extents e k =
-    entryMarks e k
-    then entryLists digests extents e k
-    then entryDigest pairs e k
-    then entryPlaces e k
-    then entryTotal sh (entryExtents extents e) k
+entryRules sh pairs digests extents e p =
+    entryMarks e p
+    then entryLists digests extents e p
+    then entryDigest pairs e p
+    then entryPlaces e p
+    then entryTotal sh (entryExtents extents e) p
 
 unfoldable pub entryVerdict : Shape → List ℕ → List ℕ → List ℕ → List ℕ → ℕ → Verdict
-entryVerdict sh pairs entries digests extents k = entryRules sh pairs digests extents (entryNo entries k) k
+entryVerdict sh pairs entries digests extents k = entryRules sh pairs digests extents (entryNo entries k) (entryPlace k)
 
 unfoldable pub entryDigestBytes : List ℕ → Entry → List ℕ
 entryDigestBytes digests e = take (e .«digest_length») (drop (e .«digest_start») digests)
@@ -148,10 +153,10 @@ requested q = record {
 -- 16 for the entry count and 5; the entries; 12. Of a run of bloom bytes, of which there are some number
 unfoldable pub requestRules : Shape → List ℕ → ℕ → List ℕ → List ℕ → List ℕ → Verdict
 requestRules sh pairs bloom entries digests extents =
-    must (leb (entryCount entries) recordLimit) Large
-    then must (eqb (bloom % 8) 0) Layout
+    must (leb (entryCount entries) recordLimit) (refusal Large 0)
+    then must (eqb (bloom % 8) 0) (refusal Layout 0)
     then firstOver (entryCount entries) (entryVerdict sh pairs entries digests extents)
-    then firstOver (entryCount entries) (freshKey (entryKey entries digests))
+    then firstOver (entryCount entries) (freshKey (entryKey entries digests) entryPlace)
 
 -- everything before the size
 unfoldable pub requestVerdict : Shape → List ℕ → Request → Verdict

@@ -2,7 +2,7 @@
 ghost use mathlib.Core.Path.{_≡_};
 ghost use Prim.Native.Nat.{_+_, _*_, _≤_, _<_};
 ghost use lib.ListN.{length, getD};
-ghost use Rattle.segment.specs.Write.{entryNo};
+ghost use Rattle.segment.specs.Write.{entryNo, entryPlace};
 
 pub struct Entry {
     pub hash_id: u64,
@@ -45,4 +45,11 @@ fn number(list: &[u64], k: usize, field: usize) -> u64
     ensures { λ r. ⌜ r ≡ getD (now (list .entry)) (9 * k + field) 0 ⌝ }
 {
     list[Entry::SIZE * k + field]
+}
+
+// The place of a refusal of entry k.
+pub fn place_of(k: usize) -> u64
+    ensures { λ r. ⌜ r ≡ entryPlace k ⌝ }
+{
+    k as u64
 }

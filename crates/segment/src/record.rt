@@ -3,6 +3,7 @@ ghost use mathlib.Core.Path.{_≡_};
 ghost use Prim.Native.Nat.{_+_, _≤_};
 ghost use lib.ListN.{length};
 ghost use Rattle.segment.specs.Format.{v3, recordOf};
+ghost use Rattle.segment.specs.Check.{placeFrom};
 use field_record::FileOffset;
 
 pub struct Record {
@@ -48,4 +49,11 @@ impl Record {
             flags: field_record::record::flags(seg, at),
         }
     }
+}
+
+// The place of a refusal of record k, of the records that begin at a byte of the segment.
+pub fn place_of(first: usize, k: usize) -> u64
+    ensures { λ r. ⌜ r ≡ placeFrom v3 first k ⌝ }
+{
+    k as u64
 }

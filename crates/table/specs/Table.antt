@@ -9,9 +9,10 @@ use mathlib.Core.Bool.{Bool, true, false, _&&_, _||_, not}
 use mathlib.Core.List.{List, [], _∷_, _++_}
 use lib.Dec.{leb, ltb, eqb}
 use lib.ListN.{length, replicate}
-use Rattle.answer.specs.declared.Refusal.the-variants.{Table}
+use Rattle.answer.specs.declared.Rule.the-variants.{Table}
 use Rattle.answer.specs.declared.Verdict.{Verdict}
 use Rattle.answer.specs.Rules.{must}
+use Rattle.answer.specs.Answers.{refusal}
 
 -- a hash id stands in a list of pairs
 unfoldable pub stands : List ℕ → ℕ → Bool
@@ -39,7 +40,7 @@ allows (x ∷ []) hash len = false
 allows (x ∷ n ∷ pairs) hash len = (eqb x hash && eqb n len) || allows pairs hash len
 
 unfoldable pub tableVerdict : List ℕ → Verdict
-tableVerdict pairs = must (goodTable pairs) Table
+tableVerdict pairs = must (goodTable pairs) (refusal Table 0)
 
 -- a list copied into a table by value, with zeros after it
 unfoldable pub byValue : List ℕ → List ℕ

@@ -7,7 +7,8 @@ use mathlib.Core.Bool.{true}
 use mathlib.Core.List.{List}
 use lib.Dec.{eqb}
 use lib.ListN.{length}
-use Rattle.answer.specs.declared.Refusal.the-variants.{Visibility}
+use Rattle.answer.specs.declared.Rule.the-variants.{Visibility}
+use Rattle.answer.specs.Answers.{refusal}
 use Rattle.answer.specs.declared.Verdict.{Verdict}
 use Rattle.answer.specs.declared.Verdict.the-variants.{Accepted, Refused}
 use Rattle.answer.specs.Rules.{must, _then_, firstOver, someBelow}
@@ -17,6 +18,7 @@ use Rattle.segment.specs.Format.{v3, headerOf, recordNo, recordCount}
 use Rattle.table.specs.Table.{goodTable}
 use Rattle.segment.specs.Keys.{freshKey}
 use Rattle.segment.specs.Check.{
+  recordPlace,
   sizeVerdict,
   headVerdict,
   layoutVerdict,
@@ -43,7 +45,7 @@ pub record Sound (pairs s : List ℕ) (h : Header) : Type 0 where
 
 -- 11, over the records' largest visibility
 abbrev pub shows : Header → ℕ → Verdict
-shows h v = must (eqb (h .visibility) v) Visibility
+shows h v = must (eqb (h .visibility) v) (refusal Visibility 0)
 
 then-none : (v : Verdict) → (v then Accepted) ≡ v
 then-none Accepted = refl
@@ -58,7 +60,7 @@ overRecords : List ℕ → List ℕ → Header → ℕ → Verdict
 overRecords pairs s h n =
     firstOver n (recordVerdict v3 pairs s h)
     then shows h (largestBelow n (visibilityNo v3 s h))
-    then firstOver n (freshKey (keyNo v3 s h))
+    then firstOver n (freshKey (keyNo v3 s h) (recordPlace v3 h))
 
 module _ (pairs s : List ℕ) (h : Header) (f : Sound pairs s h) where
   at-records : segmentVerdict v3 pairs s ≡ overRecords pairs s h (recordCount h)

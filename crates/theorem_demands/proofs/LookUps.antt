@@ -9,12 +9,12 @@ use native.Mathlib.Omega.{arith}
 use borrow.Author.Tests.{ne-eqb}
 use lib.ListN.{length, take, drop}
 use Rattle.answer.specs.declared.Refusal.{Refusal}
-use Rattle.answer.specs.declared.Refusal.the-variants.{Table, Key}
+use Rattle.answer.specs.declared.Rule.the-variants.{Table, Key}
 use Rattle.answer.specs.declared.Verdict.{Verdict}
 use Rattle.answer.specs.declared.Verdict.the-variants.{Accepted, Refused as Stopped}
 use Rattle.answer.specs.declared.Found.{Found}
 use Rattle.answer.specs.declared.Found.the-variants.{Absent, Refused as NotFound}
-use Rattle.answer.specs.Answers.{refused, checkAnswer, foundAnswer}
+use Rattle.answer.specs.Answers.{refusal, refused, checkAnswer, foundAnswer}
 use Rattle.answer.specs.Rules.{after}
 use Rattle.lists.proofs.Tests.{by-test}
 use Rattle.answer.proofs.Order.{then-accepted}
@@ -101,12 +101,12 @@ module _ (pairs s : List ℕ) (hash : ℕ) (digest : List ℕ) where
   looks : Found
   looks = lookedUp pairs s hash digest
 
-  under-bad : goodTable pairs ≡ false → looks ≡ NotFound Table
+  under-bad : goodTable pairs ≡ false → looks ≡ NotFound (refusal Table 0)
   unfolding looks lookedUp tableVerdict
   under-bad g = rw g
 
   module _ (g : goodTable pairs ≡ true) where
-    no-key : allows pairs hash (length digest) ≡ false → looks ≡ NotFound Key
+    no-key : allows pairs hash (length digest) ≡ false → looks ≡ NotFound (refusal Key 0)
     unfolding looks lookedUp foundUnder keyVerdict tableVerdict
     no-key a = rw (g, a)
 
@@ -133,8 +133,8 @@ module _ (pairs s : List ℕ) (hash : ℕ) (digest : List ℕ) where
       by-test (goodTable pairs)
       (λ g.
       by-test (allows pairs hash (length digest)) (λ a. by-segment g a (from-check g a r e))
-      (λ a. let z : NotFound Key ≡ NotFound r = sym (no-key g a) ∙ e in let same : Key ≡ r = cc in rw (← same) (by-key g a)))
-      (λ g. let z : NotFound Table ≡ NotFound r = sym (under-bad g) ∙ e in let same : Table ≡ r = cc in rw (← same) (by-table g))
+      (λ a. let z : NotFound (refusal Key 0) ≡ NotFound r = sym (no-key g a) ∙ e in let same : (refusal Key 0) ≡ r = cc in rw (← same) (by-key g a)))
+      (λ g. let z : NotFound (refusal Table 0) ≡ NotFound r = sym (under-bad g) ∙ e in let same : (refusal Table 0) ≡ r = cc in rw (← same) (by-table g))
 
   refuses : (r : Refusal) → LookGiven pairs s hash digest r → looks ≡ NotFound r
   refuses r (by-table g) = under-bad g

@@ -10,14 +10,14 @@ use lib.ListN.{length, take, drop, length-drop}
 use lib.Seq.{length-take-le}
 use Rattle.numbers.specs.Numbers.{le, numAt, bytesOf}
 use Rattle.crc64.specs.Crc.{crc}
-use Rattle.answer.specs.declared.Refusal.the-variants.{Size, Layout, Total, Extents, Visibility}
+use Rattle.answer.specs.declared.Rule.the-variants.{Size, Layout, Total, Extents, Visibility}
 use Rattle.answer.specs.declared.Source.the-variants.{None}
 use Rattle.answer.specs.declared.Verdict.{Verdict}
 use Rattle.answer.specs.declared.Verdict.the-variants.{Accepted, Refused}
 use Rattle.answer.specs.declared.Found.{Found}
 use Rattle.answer.specs.declared.Found.the-variants.{Absent, Present}
 use Rattle.answer.specs.Rules.{must, _then_}
-use Rattle.answer.specs.Answers.{checkAnswer, foundAnswer}
+use Rattle.answer.specs.Answers.{refusal, checkAnswer, foundAnswer}
 use Rattle.segment.specs.declared.header.Header.{Header}
 use Rattle.segment.specs.declared.header.Heading.{Heading}
 use Rattle.segment.specs.declared.record.Record.{Record}
@@ -115,7 +115,7 @@ none-sound pairs s t v g f h = record {
 }
 
 none-checked : (pairs s : List ℕ) (t : Heading) (v : ℕ) → goodTable pairs ≡ true → NoRecords s t v → v ≤ 1
-    → segmentVerdict v3 pairs s ≡ must (eqb v 0) Visibility
+    → segmentVerdict v3 pairs s ≡ must (eqb v 0) (refusal Visibility 0)
 none-checked pairs s t v g f h = no-record pairs s (headerWith t 0 112 0 112 0 v) (none-sound pairs s t v g f h) refl
 
 check-is : (pairs s : List ℕ) {v : Verdict} → goodTable pairs ≡ true → segmentVerdict v3 pairs s ≡ v → checkOf pairs s ≡ checkAnswer v
@@ -185,7 +185,7 @@ shown-nothing = λ pairs s t g f. check-is pairs s g (none-checked pairs s t 1 g
 
 -- ---- too short
 
-short-checked : (pairs s : List ℕ) (n : ℕ) → length s ≡ n → leb 136 n ≡ false → segmentVerdict v3 pairs s ≡ Refused Size
+short-checked : (pairs s : List ℕ) (n : ℕ) → length s ≡ n → leb 136 n ≡ false → segmentVerdict v3 pairs s ≡ Refused (refusal Size 0)
 unfolding segmentVerdict sizeVerdict
 short-checked pairs s n e h = rw (e, h)
 
@@ -197,19 +197,19 @@ short = record {
 
 -- ---- a bloom size that would wrap
 
-either-way : (b : Bool) → (must b Layout then Refused Layout) ≡ Refused Layout
+either-way : (b : Bool) → (must b (refusal Layout 0) then Refused (refusal Layout 0)) ≡ Refused (refusal Layout 0)
 either-way true = refl
 either-way false = refl
 
 great-layout : (h : Header) (n : ℕ) → bloomOffset h ≡ 112 → bloomSize h ≡ 18446744073709551504 → recordsOffset h ≡ 0
-    → layoutVerdict v3 h n ≡ Refused Layout
+    → layoutVerdict v3 h n ≡ Refused (refusal Layout 0)
 unfolding layoutVerdict
 great-layout h n e f g = rw (e, f, g) (either-way (leb (recordCount h) 65536))
 
 pub great-bloom : GreatBloom
 unfolding segmentVerdict segmentRules sizeVerdict
 great-bloom = λ pairs s g least most head at size records.
-    check-is pairs s {v = Refused Layout} g (rw (le-leb 136 (length s) least, le-leb (length s) 1073741824 most, head, great-layout (headerOf s) (length s) at size records))
+    check-is pairs s {v = Refused (refusal Layout 0)} g (rw (le-leb 136 (length s) least, le-leb (length s) 1073741824 most, head, great-layout (headerOf s) (length s) at size records))
 
 -- ---- one record with an extent
 
@@ -230,9 +230,9 @@ one-sound pairs s t total e g f = record {
 -- 10, of a record with one extent
 totals : Extent → ℕ → Verdict
 totals e total =
-    must (allFit (e ∷ [])) (Total 0)
-    then must (leb (sumLengths (e ∷ [])) 4294967295) (Total 0)
-    then must (eqb (sumLengths (e ∷ [])) total) (Total 0)
+    must (allFit (e ∷ [])) (refusal Total 0)
+    then must (leb (sumLengths (e ∷ [])) 4294967295) (refusal Total 0)
+    then must (eqb (sumLengths (e ∷ [])) total) (refusal Total 0)
 
 -- 7, 8 and 9 hold of the record, and 11 of the header
 one-rules : (pairs s : List ℕ) (t : Heading) (total : ℕ) (e : Extent) → Stored pairs → extentOf s 168 ≡ e
@@ -289,7 +289,7 @@ alone pairs s t shown r g f h =
     one-record pairs s (headerWith t 1 160 8 168 0 shown) (alone-sound pairs s t shown r g f h) r refl (f .record₀)
 
 live-rules : (pairs s : List ℕ) (t : Heading) (extentsAt total : ℕ) → Stored pairs
-    → oneRules pairs s (headerWith t 1 160 8 168 0 0) (recordWith t extentsAt 0 total 0 0) ≡ Refused (Extents 0)
+    → oneRules pairs s (headerWith t 1 160 8 168 0 0) (recordWith t extentsAt 0 total 0 0) ≡ Refused (refusal Extents 0)
 unfolding oneRules recordRules marksVerdict digestVerdict liveExtents extentsVerdict
 live-rules pairs s t extentsAt total g = rw (eq-eqb (t .domain) (t .domain) refl, g .seven)
 
@@ -298,7 +298,7 @@ live-without = λ pairs s t extentsAt total g f.
     check-is pairs s (g .good) (alone pairs s t 0 _ g f (omega arith) ∙ live-rules pairs s t extentsAt total g)
 
 gone-rules : (pairs s : List ℕ) (t : Heading) (shown : ℕ) → Stored pairs
-    → oneRules pairs s (headerWith t 1 160 8 168 0 shown) (recordWith t 0 0 0 1 1) ≡ must (eqb shown 1) Visibility
+    → oneRules pairs s (headerWith t 1 160 8 168 0 shown) (recordWith t 0 0 0 1 1) ≡ must (eqb shown 1) (refusal Visibility 0)
 unfolding oneRules recordRules marksVerdict digestVerdict goneExtents extentsVerdict totalVerdict
 gone-rules pairs s t shown g = rw (eq-eqb (t .domain) (t .domain) refl, g .seven)
 

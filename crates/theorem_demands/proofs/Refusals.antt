@@ -8,21 +8,6 @@ use mathlib.Core.Logic.{_↔_, by-cases}
 use mathlib.Core.List.{List}
 use native.Mathlib.Decide.{ℕ-discrete}
 use Rattle.answer.specs.declared.Refusal.{Refusal}
-use Rattle.answer.specs.declared.Refusal.the-variants.{
-  Size,
-  Magic,
-  Version,
-  Header as HeaderWrong,
-  Layout,
-  Checksum,
-  Record as RecordWrong,
-  Digest,
-  Extents,
-  Total,
-  Visibility,
-  Duplicate,
-  Table,
-}
 use Rattle.answer.specs.declared.Verdict.{Verdict}
 use Rattle.answer.specs.declared.Verdict.the-variants.{Accepted, Refused}
 use Rattle.answer.specs.Rules.{firstOver}
@@ -32,13 +17,14 @@ use Rattle.answer.proofs.Settled.{check-settled}
 use Rattle.segment.specs.Format.{v3, headerOf, recordCount}
 use Rattle.table.specs.Table.{goodTable}
 use Rattle.segment.specs.Keys.{freshKey}
-use Rattle.segment.specs.Check.{recordVerdict, keyNo, checked, checkOf}
+use Rattle.segment.specs.Check.{recordPlace, recordVerdict, keyNo, checked, checkOf}
 use Rattle.segment.specs.Meets.{MarksMeet, DigestMeets, RecordMeets}
 use Rattle.key.proofs.Duplicates.{refused-twice}
 use Rattle.theorem_demands.specs.Refusals.{
   MagicMeets,
   VersionMeets,
   recordIn,
+  placeIn,
   UpToSize,
   UpToHeader,
   UpToLayout,
@@ -47,6 +33,19 @@ use Rattle.theorem_demands.specs.Refusals.{
   UpToVisibility,
   Reached,
   Given,
+  by-table,
+  by-size,
+  by-magic,
+  by-version,
+  by-header,
+  by-layout,
+  by-checksum,
+  by-marks,
+  by-digest,
+  by-extents,
+  by-total,
+  by-visibility,
+  by-duplicate,
 }
 use Rattle.check_book.proofs.OneRefusal.{decided}
 use Rattle.check_book.proofs.TablesHeader.{size-book, header-book, layout-book, checksum-book}
@@ -64,34 +63,34 @@ data Judged (pairs s : List ℕ) : Type 0 where
 
 module _ (pairs s : List ℕ) where
   from-keys : UpToVisibility pairs s → Judged pairs s
-  from-keys u = go (firstOver (recordCount (headerOf s)) (freshKey (keyNo v3 s (headerOf s)))) refl
+  from-keys u = go (firstOver (recordCount (headerOf s)) (freshKey (keyNo v3 s (headerOf s)) (recordPlace v3 (headerOf s)))) refl
     where
-      go : (v : Verdict) → firstOver (recordCount (headerOf s)) (freshKey (keyNo v3 s (headerOf s))) ≡ v → Judged pairs s
+      go : (v : Verdict) → firstOver (recordCount (headerOf s)) (freshKey (keyNo v3 s (headerOf s)) (recordPlace v3 (headerOf s))) ≡ v → Judged pairs s
       go Accepted e = accepts (at-keys pairs s u ∙ e)
       go (Refused r) e =
-          let d = refused-twice (keyNo v3 s (headerOf s)) (recordCount (headerOf s)) r e in
-          gives (Duplicate (d .0)) (u, d .2)
+          let d = refused-twice (keyNo v3 s (headerOf s)) (recordPlace v3 (headerOf s)) (recordCount (headerOf s)) r e in
+          gives _ (by-duplicate (d .0) u (d .2))
 
   from-visibility : UpToRecords pairs s → Judged pairs s
   from-visibility u =
       by-cases (decided (visibility-book v3 s (headerOf s)))
       (λ m. from-keys (record { before = u; visibility = m }))
-      (λ n. gives Visibility (u, n))
+      (λ n. gives _ (by-visibility u n))
 
   -- a record whose rules are not all kept
   module _ (k : ℕ) (u : Reached pairs s k) (n : ¬ RecordMeets v3 pairs s (headerOf s) (recordIn s k)) where
     from-extents : MarksMeet (headerOf s) (recordIn s k) → DigestMeets pairs (headerOf s) (recordIn s k) → Judged pairs s
     from-extents marks digest =
-        by-cases (decided (extents-book (headerOf s) (recordIn s k) k))
-        (λ m. gives (Total k) (u, marks, digest, m, λ total. n (record { marks = marks; digest = digest; extents = m; total = total })))
-        (λ b. gives (Extents k) (u, marks, digest, b))
+        by-cases (decided (extents-book (headerOf s) (recordIn s k) (placeIn s k)))
+        (λ m. gives _ (by-total k u marks digest m (λ total. n (record { marks = marks; digest = digest; extents = m; total = total }))))
+        (λ b. gives _ (by-extents k u marks digest b))
 
     from-digest : MarksMeet (headerOf s) (recordIn s k) → Judged pairs s
     from-digest marks =
-        by-cases (decided (digest-book pairs (headerOf s) (recordIn s k) k)) (from-extents marks) (λ b. gives (Digest k) (u, marks, b))
+        by-cases (decided (digest-book pairs (headerOf s) (recordIn s k) (placeIn s k))) (from-extents marks) (λ b. gives _ (by-digest k u marks b))
 
     from-marks : Judged pairs s
-    from-marks = by-cases (decided (marks-book (headerOf s) (recordIn s k) k)) from-digest (λ b. gives (RecordWrong k) (u, b))
+    from-marks = by-cases (decided (marks-book (headerOf s) (recordIn s k) (placeIn s k))) from-digest (λ b. gives _ (by-marks k u b))
 
   first-bad : UpToChecksum pairs s → (r : Refusal) → Lowest (recordCount (headerOf s)) (recordVerdict v3 pairs s (headerOf s)) r → Judged pairs s
   first-bad u r l =
@@ -107,36 +106,36 @@ module _ (pairs s : List ℕ) where
 
   from-checksum : UpToLayout pairs s → Judged pairs s
   from-checksum u =
-      by-cases (decided (checksum-book s)) (λ m. from-records (record { before = u; checksum = m })) (λ n. gives Checksum (u, n))
+      by-cases (decided (checksum-book s)) (λ m. from-records (record { before = u; checksum = m })) (λ n. gives _ (by-checksum u n))
 
   from-layout : UpToHeader pairs s → Judged pairs s
   from-layout u =
       by-cases (decided (layout-book s (headerOf s)))
       (λ m. from-checksum (record { before = u; layout = m }))
-      (λ n. gives Layout (u, n))
+      (λ n. gives _ (by-layout u n))
 
   from-header : UpToSize pairs s → MagicMeets s → VersionMeets s → Judged pairs s
   from-header u magic version =
       by-cases (decided (header-book v3 (headerOf s) magic version))
       (λ m. from-layout (record { before = u; magic = magic; version = version; header = m }))
-      (λ n. gives HeaderWrong (u, magic, version, n))
+      (λ n. gives _ (by-header u magic version n))
 
   from-version : UpToSize pairs s → MagicMeets s → Judged pairs s
   from-version u magic =
-      by-cases (ℕ-discrete (headerOf s .version) (v3 .version)) (from-header u magic) (λ n. gives Version (u, magic, n))
+      by-cases (ℕ-discrete (headerOf s .version) (v3 .version)) (from-header u magic) (λ n. gives _ (by-version u magic n))
 
   from-magic : UpToSize pairs s → Judged pairs s
-  from-magic u = by-cases (ℕ-discrete (headerOf s .magic) (v3 .magic)) (from-version u) (λ n. gives Magic (u, n))
+  from-magic u = by-cases (ℕ-discrete (headerOf s .magic) (v3 .magic)) (from-version u) (λ n. gives _ (by-magic u n))
 
   from-size : goodTable pairs ≡ true → Judged pairs s
-  from-size g = by-cases (decided (size-book s)) (λ m. from-magic (record { table = g; size = m })) (λ n. gives Size (g, n))
+  from-size g = by-cases (decided (size-book s)) (λ m. from-magic (record { table = g; size = m })) (λ n. gives _ (by-size g n))
 
   judged : Judged pairs s
   judged = go (goodTable pairs) refl
     where
       go : (b : Bool) → goodTable pairs ≡ b → Judged pairs s
       go true e = from-size e
-      go false e = gives Table e
+      go false e = gives _ (by-table e)
 
   -- ---- the theorem
 

@@ -9,7 +9,8 @@ use borrow.Author.Tests.{le-leb, lt-leb, eq-eqb, ne-eqb}
 use lib.Dec.{leb, eqb}
 use lib.ListN.{length}
 use Rattle.answer.specs.declared.Refusal.{Refusal}
-use Rattle.answer.specs.declared.Refusal.the-variants.{Layout, Record as RecordWrong, Digest, Extents, Total, Table, List as ListEnd, Large}
+use Rattle.answer.specs.declared.Rule.the-variants.{Layout, Record as RecordWrong, Digest, Extents, Total, Table, List as ListEnd, Large}
+use Rattle.answer.specs.Answers.{refusal}
 use Rattle.answer.specs.declared.Verdict.{Verdict}
 use Rattle.answer.specs.declared.Verdict.the-variants.{Accepted, Refused}
 use Rattle.answer.specs.Rules.{must, _then_, firstOver}
@@ -20,6 +21,7 @@ use Rattle.segment.specs.Format.{v3, recordLimit}
 use Rattle.table.specs.Table.{goodTable, tableVerdict}
 use Rattle.segment.specs.Keys.{freshKey}
 use Rattle.segment.specs.Write.{
+  entryPlace,
   Request,
   entryCount,
   entryNo,
@@ -60,23 +62,23 @@ use Rattle.check_book.proofs.TablesHeader.{table-book}
 -- ---- one entry
 
 module _ (pairs digests extents : List ℕ) (e : Entry) (k : ℕ) where
-  marks-only : Only (RecordWrong k) (entryMarks e k)
+  marks-only : Only (refusal RecordWrong k) (entryMarks e k)
   unfolding entryMarks
   marks-only = search only-rows depth 9
 
-  lists-only : Only (ListEnd k) (entryLists digests extents e k)
+  lists-only : Only (refusal ListEnd k) (entryLists digests extents e k)
   unfolding entryLists
   lists-only = search only-rows
 
-  digest-only : Only (Digest k) (entryDigest pairs e k)
+  digest-only : Only (refusal Digest k) (entryDigest pairs e k)
   unfolding entryDigest
   digest-only = search only-rows
 
-  places-only : Only (Extents k) (entryPlaces e k)
+  places-only : Only (refusal Extents k) (entryPlaces e k)
   unfolding entryPlaces
   places-only = search only-rows
 
-  total-only : Only (Total k) (entryTotal v3 (entryExtents extents e) k)
+  total-only : Only (refusal Total k) (entryTotal v3 (entryExtents extents e) k)
   unfolding entryTotal
   total-only = search only-rows
 
@@ -129,33 +131,33 @@ module _ (pairs : List ℕ) (q : Request) where
       (record { before = u; within = l .within; earlier = λ j i. asked (entryNo (q .entries) j) j .0 (l .before j i) })
       (entry-refuses pairs (q .digests) (q .extents) (entryNo (q .entries) (l .at)) (l .at) r (l .here))
 
-  from-keys : UpToEntries pairs q → (r : Refusal) → firstOver count (freshKey key) ≡ Refused r → RequestGiven pairs q r
-  from-keys u r f = let d = refused-twice key count r f in rw (← d .1) (by-key (d .0) u (d .2))
+  from-keys : UpToEntries pairs q → (r : Refusal) → firstOver count (freshKey key entryPlace) ≡ Refused r → RequestGiven pairs q r
+  from-keys u r f = let d = refused-twice key entryPlace count r f in rw (← d .1) (by-key (d .0) u (d .2))
 
-  from-entries : UpToBloom pairs q → (r : Refusal) → (firstOver count each then firstOver count (freshKey key)) ≡ Refused r → RequestGiven pairs q r
+  from-entries : UpToBloom pairs q → (r : Refusal) → (firstOver count each then firstOver count (freshKey key entryPlace)) ≡ Refused r → RequestGiven pairs q r
   from-entries u r f =
       ⊎-elim
       (λ g. first-entry u r (first-is-lowest count each r .0 g))
       (λ g. from-keys (record { before = u; each = entries-book v3 pairs (q .entries) (q .digests) (q .extents) count .0 (g .0) }) r (g .1))
-      (then-refused (firstOver count each) (firstOver count (freshKey key)) r .0 f)
+      (then-refused (firstOver count each) (firstOver count (freshKey key entryPlace)) r .0 f)
 
-  few-book : must (leb count recordLimit) Large ≡ Accepted ↔ count ≤ recordLimit
+  few-book : must (leb count recordLimit) (refusal Large 0) ≡ Accepted ↔ count ≤ recordLimit
   few-book = simp rows Iff·rfl
 
-  bloom-book : must (eqb (length (q .bloom) % 8) 0) Layout ≡ Accepted ↔ length (q .bloom) % 8 ≡ 0
+  bloom-book : must (eqb (length (q .bloom) % 8) 0) (refusal Layout 0) ≡ Accepted ↔ length (q .bloom) % 8 ≡ 0
   bloom-book = simp rows Iff·rfl
 
   request-refuses : (r : Refusal) → requestVerdict v3 pairs q ≡ Refused r → RequestGiven pairs q r
   unfolding requestVerdict requestRules tableVerdict
   request-refuses r f =
-      by-first (only-must (goodTable pairs) Table) (table-book pairs) f (λ s n. rw (← s) (by-table (by-test (goodTable pairs) (λ g. absurd (n g)) (λ g. g))))
+      by-first (only-must (goodTable pairs) (refusal Table 0)) (table-book pairs) f (λ s n. rw (← s) (by-table (by-test (goodTable pairs) (λ g. absurd (n g)) (λ g. g))))
       (λ g f.
-      by-first (only-must (leb count recordLimit) Large) few-book f (λ s n. rw (← s) (by-count g (omega arith)))
+      by-first (only-must (leb count recordLimit) (refusal Large 0)) few-book f (λ s n. rw (← s) (by-count g (omega arith)))
       (λ few f.
-      by-first (only-must (eqb (length (q .bloom) % 8) 0) Layout) bloom-book f (λ s n. rw (← s) (by-bloom g few n))
+      by-first (only-must (eqb (length (q .bloom) % 8) 0) (refusal Layout 0)) bloom-book f (λ s n. rw (← s) (by-bloom g few n))
       (λ bloom f. from-entries (record { table = g; few = few; bloom = bloom }) r f)))
 
-  at-entries : UpToBloom pairs q → requestVerdict v3 pairs q ≡ (firstOver count each then firstOver count (freshKey key))
+  at-entries : UpToBloom pairs q → requestVerdict v3 pairs q ≡ (firstOver count each then firstOver count (freshKey key entryPlace))
   unfolding requestVerdict requestRules tableVerdict
   at-entries u = rw (u .table, le-leb _ _ (u .few), eq-eqb _ _ (u .bloom))
 
@@ -170,7 +172,7 @@ module _ (pairs : List ℕ) (q : Request) where
       at-entries (u .before) ∙ rw (first-refused count k each r (u .within) earlier here)
   request-given r (by-key k u m) =
       let all = entries-book v3 pairs (q .entries) (q .digests) (q .extents) count .1 (u .each) in
-      at-entries (u .before) ∙ rw (all, twice-refused key count k m)
+      at-entries (u .before) ∙ rw (all, twice-refused key entryPlace count k m)
 
   pub request-refused-iff : (r : Refusal) → requestVerdict v3 pairs q ≡ Refused r ↔ RequestGiven pairs q r
   request-refused-iff r = (request-refuses r, request-given r)

@@ -10,12 +10,12 @@ use lib.Dec.{leb}
 use lib.ListN.{length, take, drop}
 use lib.Seq.{take-at}
 use Rattle.answer.specs.declared.Refusal.{Refusal}
-use Rattle.answer.specs.declared.Refusal.the-variants.{Room, Large}
+use Rattle.answer.specs.declared.Rule.the-variants.{Room, Large}
 use Rattle.answer.specs.declared.Verdict.{Verdict}
 use Rattle.answer.specs.declared.Verdict.the-variants.{Accepted, Refused as Stopped}
 use Rattle.answer.specs.declared.Written.{Written}
 use Rattle.answer.specs.declared.Written.the-variants.{Done, Refused}
-use Rattle.answer.specs.Answers.{refused, writtenAnswer}
+use Rattle.answer.specs.Answers.{refusal, refused, writtenAnswer}
 use Rattle.answer.specs.Rules.{must, _then_, after}
 use Rattle.answer.proofs.Order.{must-accepted, rows, then-refused}
 use Rattle.answer.proofs.Settled.{written-settled}
@@ -40,14 +40,14 @@ room-refused : (n room : ℕ) (r : Refusal) → roomVerdict n room ≡ Stopped r
 unfolding roomVerdict
 room-refused n room r = (
   λ e. ⊎-elim
-      (λ large. let q = must-refused (leb n fileLimit) Large r .0 large in rw (← q .1) (by-limit (leb-false n fileLimit (q .0))))
-      (λ both. let q = must-refused (leb n room) Room r .0 (both .1) in
-      rw (← q .1) (by-room (leb-true n fileLimit (must-accepted (leb n fileLimit) Large .0 (both .0))) (leb-false n room (q .0))))
-      (then-refused (must (leb n fileLimit) Large) (must (leb n room) Room) r .0 e),
+      (λ large. let q = must-refused (leb n fileLimit) (refusal Large 0) r .0 large in rw (← q .1) (by-limit (leb-false n fileLimit (q .0))))
+      (λ both. let q = must-refused (leb n room) (refusal Room 0) r .0 (both .1) in
+      rw (← q .1) (by-room (leb-true n fileLimit (must-accepted (leb n fileLimit) (refusal Large 0) .0 (both .0))) (leb-false n room (q .0))))
+      (then-refused (must (leb n fileLimit) (refusal Large 0)) (must (leb n room) (refusal Room 0)) r .0 e),
   given r,
 )
   where
-    given : (q : Refusal) → SizeGiven n room q → (must (leb n fileLimit) Large then must (leb n room) Room) ≡ Stopped q
+    given : (q : Refusal) → SizeGiven n room q → (must (leb n fileLimit) (refusal Large 0) then must (leb n room) (refusal Room 0)) ≡ Stopped q
     given q (by-limit l) = rw (lt-leb n fileLimit l)
     given q (by-room l h) = rw (le-leb n fileLimit l, lt-leb n room h)
 

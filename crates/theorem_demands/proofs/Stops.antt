@@ -5,31 +5,13 @@ use mathlib.Core.Path.{_≡_, _∙_}
 use mathlib.Core.List.{List}
 use lib.ListN.{length}
 use Rattle.answer.specs.declared.Refusal.{Refusal}
-use Rattle.answer.specs.declared.Refusal.the-variants.{
-  Size,
-  Magic,
-  Version,
-  Header as HeaderWrong,
-  Layout,
-  Checksum,
-  Record as RecordWrong,
-  Digest,
-  Extents,
-  Total,
-  Visibility,
-  Duplicate,
-  Room,
-  Table,
-  List as ListEnd,
-  Large,
-  Key,
-}
 use Rattle.answer.specs.declared.Verdict.the-variants.{Accepted, Refused}
 use Rattle.answer.specs.Rules.{_then_, firstOver}
 use Rattle.answer.proofs.Order.{first-refused}
 use Rattle.segment.specs.Format.{v3, headerOf, recordCount}
 use Rattle.segment.specs.Keys.{freshKey}
 use Rattle.segment.specs.Check.{
+  recordPlace,
   headVerdict,
   layoutVerdict,
   checksumVerdict,
@@ -44,6 +26,7 @@ use Rattle.segment.specs.Check.{
 use Rattle.key.proofs.Duplicates.{twice-refused}
 use Rattle.theorem_demands.specs.Refusals.{
   recordIn,
+  placeIn,
   UpToSize,
   UpToHeader,
   UpToLayout,
@@ -52,6 +35,19 @@ use Rattle.theorem_demands.specs.Refusals.{
   UpToVisibility,
   Reached,
   Given,
+  by-table,
+  by-size,
+  by-magic,
+  by-version,
+  by-header,
+  by-layout,
+  by-checksum,
+  by-marks,
+  by-digest,
+  by-extents,
+  by-total,
+  by-visibility,
+  by-duplicate,
 }
 use Rattle.check_book.proofs.TablesHeader.{
   table-broken,
@@ -87,7 +83,7 @@ module _ (pairs s : List ℕ) where
       → checked pairs s
       ≡ (firstOver (recordCount (headerOf s)) (recordVerdict v3 pairs s (headerOf s))
       then visibilityVerdict v3 s (headerOf s)
-      then firstOver (recordCount (headerOf s)) (freshKey (keyNo v3 s (headerOf s))))
+      then firstOver (recordCount (headerOf s)) (freshKey (keyNo v3 s (headerOf s)) (recordPlace v3 (headerOf s))))
   unfolding segmentRules
   at-records u =
       at-header (u .before .before .before) ∙ rw (head-kept (u .before .before), layout-kept (u .before), checksum-book s .1 (u .checksum))
@@ -95,7 +91,7 @@ module _ (pairs s : List ℕ) where
   records-kept : UpToRecords pairs s → firstOver (recordCount (headerOf s)) (recordVerdict v3 pairs s (headerOf s)) ≡ Accepted
   records-kept u = records-book v3 pairs s (headerOf s) (recordCount (headerOf s)) .1 (u .each)
 
-  pub at-keys : UpToVisibility pairs s → checked pairs s ≡ firstOver (recordCount (headerOf s)) (freshKey (keyNo v3 s (headerOf s)))
+  pub at-keys : UpToVisibility pairs s → checked pairs s ≡ firstOver (recordCount (headerOf s)) (freshKey (keyNo v3 s (headerOf s)) (recordPlace v3 (headerOf s)))
   at-keys u = at-records (u .before .before) ∙ rw (records-kept (u .before), visibility-book v3 s (headerOf s) .1 (u .visibility))
 
   -- ---- where it stops
@@ -113,7 +109,7 @@ module _ (pairs s : List ℕ) where
     unfolding segmentRules
     checksum-stops u e = at-header (u .before .before) ∙ rw (head-kept (u .before), layout-kept u, e)
 
-    record-stops : (k : ℕ) → Reached pairs s k → recordRules v3 pairs s (headerOf s) (recordIn s k) k ≡ Refused r → checked pairs s ≡ Refused r
+    record-stops : (k : ℕ) → Reached pairs s k → recordRules v3 pairs s (headerOf s) (recordIn s k) (placeIn s k) ≡ Refused r → checked pairs s ≡ Refused r
     unfolding recordVerdict
     record-stops k u e =
         let earlier = records-book v3 pairs s (headerOf s) k .1 (u .earlier) in
@@ -127,20 +123,17 @@ module _ (pairs s : List ℕ) where
 
   pub given-refused : (r : Refusal) → Given pairs s r → checked pairs s ≡ Refused r
   unfolding checked segmentVerdict
-  given-refused Table e = rw (table-broken pairs e)
-  given-refused Size u = under-table pairs s (u .0) ∙ rw (size-broken s (u .1))
-  given-refused Magic u = head-stops (u .0) (magic-broken v3 (headerOf s) (u .1))
-  given-refused Version u = head-stops (u .0) (version-broken v3 (headerOf s) (u .1) (u .2))
-  given-refused HeaderWrong u = head-stops (u .0) (header-broken v3 (headerOf s) (u .1) (u .2) (u .3))
-  given-refused Layout u = layout-stops (u .0) (layout-broken s (headerOf s) (u .1))
-  given-refused Checksum u = checksum-stops (u .0) (checksum-broken s (u .1))
-  given-refused (RecordWrong k) u = record-stops k (u .0) (marks-broken v3 pairs s (headerOf s) (recordIn s k) k (u .1))
-  given-refused (Digest k) u = record-stops k (u .0) (digest-broken v3 pairs s (headerOf s) (recordIn s k) k (u .1) (u .2))
-  given-refused (Extents k) u = record-stops k (u .0) (extents-broken v3 pairs s (headerOf s) (recordIn s k) k (u .1) (u .2) (u .3))
-  given-refused (Total k) u = record-stops k (u .0) (total-broken v3 pairs s (headerOf s) (recordIn s k) k (u .1) (u .2) (u .3) (u .4))
-  given-refused Visibility u = visibility-stops (u .0) (visibility-broken v3 s (headerOf s) (u .1))
-  given-refused (Duplicate k) u = at-keys (u .0) ∙ twice-refused (keyNo v3 s (headerOf s)) (recordCount (headerOf s)) k (u .1)
-  given-refused Room u = absurd u
-  given-refused (ListEnd k) u = absurd u
-  given-refused Large u = absurd u
-  given-refused Key u = absurd u
+  given-refused r (by-table e) = rw (table-broken pairs e)
+  given-refused r (by-size g n) = under-table pairs s g ∙ rw (size-broken s n)
+  given-refused r (by-magic u n) = head-stops u (magic-broken v3 (headerOf s) n)
+  given-refused r (by-version u m n) = head-stops u (version-broken v3 (headerOf s) m n)
+  given-refused r (by-header u m v n) = head-stops u (header-broken v3 (headerOf s) m v n)
+  given-refused r (by-layout u n) = layout-stops u (layout-broken s (headerOf s) n)
+  given-refused r (by-checksum u n) = checksum-stops u (checksum-broken s n)
+  given-refused r (by-marks k u n) = record-stops k u (marks-broken v3 pairs s (headerOf s) (recordIn s k) (placeIn s k) n)
+  given-refused r (by-digest k u m n) = record-stops k u (digest-broken v3 pairs s (headerOf s) (recordIn s k) (placeIn s k) m n)
+  given-refused r (by-extents k u m d n) = record-stops k u (extents-broken v3 pairs s (headerOf s) (recordIn s k) (placeIn s k) m d n)
+  given-refused r (by-total k u m d x n) = record-stops k u (total-broken v3 pairs s (headerOf s) (recordIn s k) (placeIn s k) m d x n)
+  given-refused r (by-visibility u n) = visibility-stops u (visibility-broken v3 s (headerOf s) n)
+  given-refused r (by-duplicate k u t) =
+      at-keys u ∙ twice-refused (keyNo v3 s (headerOf s)) (recordPlace v3 (headerOf s)) (recordCount (headerOf s)) k t

@@ -8,8 +8,8 @@ use mathlib.Core.Logic.{_↔_}
 use mathlib.Core.List.{List}
 use lib.ListN.{length, take, drop}
 use Rattle.answer.specs.declared.Refusal.{Refusal}
-use Rattle.answer.specs.declared.Refusal.the-variants.{Table, Key}
-use Rattle.answer.specs.Answers.{foundAnswer}
+use Rattle.answer.specs.declared.Rule.the-variants.{Table, Key}
+use Rattle.answer.specs.Answers.{refusal, foundAnswer}
 use Rattle.segment.specs.Format.{v3, extentSize, headerOf, recordCount, recordNo}
 use Rattle.table.specs.Table.{goodTable, allows}
 use Rattle.segment.specs.Keys.{keyOf}
@@ -37,6 +37,6 @@ pub record Finds (pairs s : List ℕ) (hash : ℕ) (digest : List ℕ) : Type 0 
 
 -- when look up gives a refusal: 14, then 17, then as check
 pub data LookGiven (pairs s : List ℕ) (hash : ℕ) (digest : List ℕ) : Refusal → Type 0 where
-  by-table : goodTable pairs ≡ false → LookGiven pairs s hash digest Table
-  by-key : goodTable pairs ≡ true → allows pairs hash (length digest) ≡ false → LookGiven pairs s hash digest Key
+  by-table : goodTable pairs ≡ false → LookGiven pairs s hash digest (refusal Table 0)
+  by-key : goodTable pairs ≡ true → allows pairs hash (length digest) ≡ false → LookGiven pairs s hash digest (refusal Key 0)
   by-segment : {r : Refusal} → goodTable pairs ≡ true → allows pairs hash (length digest) ≡ true → Given pairs s r → LookGiven pairs s hash digest r

@@ -8,7 +8,7 @@ use mathlib.Core.Path.{_≡_}
 use mathlib.Core.Bool.{true, false}
 use mathlib.Core.List.{List}
 use Rattle.answer.specs.declared.Refusal.{Refusal}
-use Rattle.answer.specs.declared.Refusal.the-variants.{
+use Rattle.answer.specs.declared.Rule.the-variants.{
   Size,
   Magic,
   Version,
@@ -21,17 +21,14 @@ use Rattle.answer.specs.declared.Refusal.the-variants.{
   Total,
   Visibility,
   Duplicate,
-  Room,
   Table,
-  List as ListEnd,
-  Large,
-  Key,
 }
+use Rattle.answer.specs.Answers.{refusal}
 use Rattle.segment.specs.declared.record.Record.{Record}
 use Rattle.segment.specs.Format.{v3, headerOf, recordCount, recordNo}
 use Rattle.table.specs.Table.{goodTable}
 use Rattle.segment.specs.Keys.{FirstTwice}
-use Rattle.segment.specs.Check.{keyNo}
+use Rattle.segment.specs.Check.{keyNo, recordPlace}
 use Rattle.segment.specs.Meets.{
   SizeMeets,
   HeaderMeets,
@@ -56,6 +53,10 @@ VersionMeets s = headerOf s .version ≡ v3 .version
 -- record k of a segment
 abbrev pub recordIn : List ℕ → ℕ → Record
 recordIn s k = recordNo v3 s (headerOf s) k
+
+-- the place of its refusals
+abbrev pub placeIn : List ℕ → ℕ → ℕ
+placeIn s k = recordPlace v3 (headerOf s) k
 
 -- ---- what is kept before a rule's turn comes
 
@@ -97,31 +98,27 @@ pub record Reached (pairs s : List ℕ) (k : ℕ) : Type 0 where
   pub within : k < recordCount (headerOf s)
   pub earlier : (j : ℕ) → j < k → RecordMeets v3 pairs s (headerOf s) (recordIn s j)
 
--- ---- when each is given
+-- ---- when each is given, and at which place
 
-abbrev pub Given : List ℕ → List ℕ → Refusal → Type 0
-Given pairs s Table = goodTable pairs ≡ false
-Given pairs s Size = (goodTable pairs ≡ true) × ¬ SizeMeets s
-Given pairs s Magic = UpToSize pairs s × ¬ MagicMeets s
-Given pairs s Version = UpToSize pairs s × MagicMeets s × ¬ VersionMeets s
-Given pairs s HeaderWrong = UpToSize pairs s × MagicMeets s × VersionMeets s × ¬ HeaderMeets (headerOf s)
-Given pairs s Layout = UpToHeader pairs s × ¬ LayoutMeets v3 s (headerOf s)
-Given pairs s Checksum = UpToLayout pairs s × ¬ ChecksumMeets s
-Given pairs s (RecordWrong k) = Reached pairs s k × ¬ MarksMeet (headerOf s) (recordIn s k)
-Given pairs s (Digest k) =
-    Reached pairs s k × MarksMeet (headerOf s) (recordIn s k) × ¬ DigestMeets pairs (headerOf s) (recordIn s k)
-Given pairs s (Extents k) =
-    Reached pairs s k × MarksMeet (headerOf s) (recordIn s k) × DigestMeets pairs (headerOf s) (recordIn s k)
-    × ¬ ExtentsMeet (headerOf s) (recordIn s k)
-Given pairs s (Total k) =
-    Reached pairs s k × MarksMeet (headerOf s) (recordIn s k) × DigestMeets pairs (headerOf s) (recordIn s k)
-    × ExtentsMeet (headerOf s) (recordIn s k)
-    × ¬ TotalMeets v3 s (recordIn s k)
-Given pairs s Visibility = UpToRecords pairs s × ¬ VisibilityMeets v3 s (headerOf s)
--- at the lowest record whose key stands earlier
-Given pairs s (Duplicate k) = UpToVisibility pairs s × FirstTwice (keyNo v3 s (headerOf s)) (recordCount (headerOf s)) k
--- the refusals of write, look up and tidy alone
-Given pairs s Room = ⊥
-Given pairs s (ListEnd k) = ⊥
-Given pairs s Large = ⊥
-Given pairs s Key = ⊥
+pub data Given (pairs s : List ℕ) : Refusal → Type 0 where
+  by-table : goodTable pairs ≡ false → Given pairs s (refusal Table 0)
+  by-size : goodTable pairs ≡ true → ¬ SizeMeets s → Given pairs s (refusal Size 0)
+  by-magic : UpToSize pairs s → ¬ MagicMeets s → Given pairs s (refusal Magic 0)
+  by-version : UpToSize pairs s → MagicMeets s → ¬ VersionMeets s → Given pairs s (refusal Version 0)
+  by-header : UpToSize pairs s → MagicMeets s → VersionMeets s → ¬ HeaderMeets (headerOf s) → Given pairs s (refusal HeaderWrong 0)
+  by-layout : UpToHeader pairs s → ¬ LayoutMeets v3 s (headerOf s) → Given pairs s (refusal Layout 0)
+  by-checksum : UpToLayout pairs s → ¬ ChecksumMeets s → Given pairs s (refusal Checksum 0)
+  by-marks : (k : ℕ) → Reached pairs s k → ¬ MarksMeet (headerOf s) (recordIn s k) → Given pairs s (refusal RecordWrong (placeIn s k))
+  by-digest : (k : ℕ) → Reached pairs s k → MarksMeet (headerOf s) (recordIn s k) → ¬ DigestMeets pairs (headerOf s) (recordIn s k)
+      → Given pairs s (refusal Digest (placeIn s k))
+  by-extents : (k : ℕ) → Reached pairs s k → MarksMeet (headerOf s) (recordIn s k) → DigestMeets pairs (headerOf s) (recordIn s k)
+      → ¬ ExtentsMeet (headerOf s) (recordIn s k)
+      → Given pairs s (refusal Extents (placeIn s k))
+  by-total : (k : ℕ) → Reached pairs s k → MarksMeet (headerOf s) (recordIn s k) → DigestMeets pairs (headerOf s) (recordIn s k)
+      → ExtentsMeet (headerOf s) (recordIn s k)
+      → ¬ TotalMeets v3 s (recordIn s k)
+      → Given pairs s (refusal Total (placeIn s k))
+  by-visibility : UpToRecords pairs s → ¬ VisibilityMeets v3 s (headerOf s) → Given pairs s (refusal Visibility 0)
+  -- at the lowest record whose key stands earlier
+  by-duplicate : (k : ℕ) → UpToVisibility pairs s → FirstTwice (keyNo v3 s (headerOf s)) (recordCount (headerOf s)) k
+      → Given pairs s (refusal Duplicate (placeIn s k))

@@ -13,8 +13,8 @@ use mathlib.Core.List.{List, [], _∷_, _++_}
 use lib.ListN.{length, drop}
 use Rattle.numbers.specs.Numbers.{Bytes}
 use Rattle.answer.specs.declared.Refusal.{Refusal}
-use Rattle.answer.specs.declared.Refusal.the-variants.{Room, Large}
-use Rattle.answer.specs.Answers.{answered}
+use Rattle.answer.specs.declared.Rule.the-variants.{Room, Large}
+use Rattle.answer.specs.Answers.{refusal, answered}
 use Rattle.segment.specs.Format.{v3, fileLimit}
 use Rattle.segment.specs.Check.{checkOf}
 use Rattle.segment.specs.Meaning.{Meaning, meaningOf, SameMeaning}
@@ -39,8 +39,8 @@ pub record Tidiable (pairs s : List ℕ) (room : ℕ) : Type 0 where
 
 -- a result of some length, for an output of some room: 16, then 13
 pub data SizeGiven (n room : ℕ) : Refusal → Type 0 where
-  by-limit : fileLimit < n → SizeGiven n room Large
-  by-room : n ≤ fileLimit → room < n → SizeGiven n room Room
+  by-limit : fileLimit < n → SizeGiven n room (refusal Large 0)
+  by-room : n ≤ fileLimit → room < n → SizeGiven n room (refusal Room 0)
 
 -- as check, then those
 abbrev pub TidyGiven : List ℕ → List ℕ → ℕ → Refusal → Type 0

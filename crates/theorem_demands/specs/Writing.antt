@@ -14,7 +14,7 @@ use mathlib.Core.List.{List}
 use lib.ListN.{length, getD}
 use Rattle.numbers.specs.Numbers.{Bytes}
 use Rattle.answer.specs.declared.Refusal.{Refusal}
-use Rattle.answer.specs.declared.Refusal.the-variants.{
+use Rattle.answer.specs.declared.Rule.the-variants.{
   Layout,
   Record as RecordWrong,
   Digest,
@@ -25,6 +25,7 @@ use Rattle.answer.specs.declared.Refusal.the-variants.{
   List as ListEnd,
   Large,
 }
+use Rattle.answer.specs.Answers.{refusal}
 use Rattle.segment.specs.declared.entry.Entry.{Entry}
 use Rattle.segment.specs.Format.{v3, fileLimit, recordLimit}
 use Rattle.table.specs.Table.{goodTable, allows}
@@ -90,26 +91,26 @@ pub record EntryReached (pairs : List ℕ) (q : Request) (k : ℕ) : Type 0 wher
 
 -- of one entry, which is number k, over a run of digest bytes and a list of extents: 7, 15, 8, 9, 10
 pub data EntryGiven (pairs digests extents : List ℕ) (e : Entry) (k : ℕ) : Refusal → Type 0 where
-  by-marks : ¬ MarksAsked e → EntryGiven pairs digests extents e k (RecordWrong k)
-  by-lists : MarksAsked e → ¬ ListsAsked digests extents e → EntryGiven pairs digests extents e k (ListEnd k)
+  by-marks : ¬ MarksAsked e → EntryGiven pairs digests extents e k (refusal RecordWrong k)
+  by-lists : MarksAsked e → ¬ ListsAsked digests extents e → EntryGiven pairs digests extents e k (refusal ListEnd k)
   by-digest : MarksAsked e → ListsAsked digests extents e → ¬ (allows pairs (e .«hash_id») (e .«digest_length») ≡ true)
-      → EntryGiven pairs digests extents e k (Digest k)
+      → EntryGiven pairs digests extents e k (refusal Digest k)
   by-places : MarksAsked e → ListsAsked digests extents e → allows pairs (e .«hash_id») (e .«digest_length») ≡ true → ¬ PlacesAsked e
-      → EntryGiven pairs digests extents e k (Extents k)
+      → EntryGiven pairs digests extents e k (refusal Extents k)
   by-total : MarksAsked e → ListsAsked digests extents e → allows pairs (e .«hash_id») (e .«digest_length») ≡ true → PlacesAsked e
       → ¬ TotalAsked v3 (entryExtents extents e)
-      → EntryGiven pairs digests extents e k (Total k)
+      → EntryGiven pairs digests extents e k (refusal Total k)
 
 -- everything before the size
 pub data RequestGiven (pairs : List ℕ) (q : Request) : Refusal → Type 0 where
-  by-table : goodTable pairs ≡ false → RequestGiven pairs q Table
-  by-count : goodTable pairs ≡ true → recordLimit < entryCount (q .entries) → RequestGiven pairs q Large
-  by-bloom : goodTable pairs ≡ true → entryCount (q .entries) ≤ recordLimit → ¬ (length (q .bloom) % 8 ≡ 0) → RequestGiven pairs q Layout
+  by-table : goodTable pairs ≡ false → RequestGiven pairs q (refusal Table 0)
+  by-count : goodTable pairs ≡ true → recordLimit < entryCount (q .entries) → RequestGiven pairs q (refusal Large 0)
+  by-bloom : goodTable pairs ≡ true → entryCount (q .entries) ≤ recordLimit → ¬ (length (q .bloom) % 8 ≡ 0) → RequestGiven pairs q (refusal Layout 0)
   by-entry : {r : Refusal} (k : ℕ) → EntryReached pairs q k → EntryGiven pairs (q .digests) (q .extents) (entryNo (q .entries) k) k r
       → RequestGiven pairs q r
   -- at the lowest entry whose key stands earlier
   by-key : (k : ℕ) → UpToEntries pairs q → FirstTwice (entryKey (q .entries) (q .digests)) (entryCount (q .entries)) k
-      → RequestGiven pairs q (Duplicate k)
+      → RequestGiven pairs q (refusal Duplicate k)
 
 -- and then 16, 13
 abbrev pub WriteGiven : List ℕ → Request → ℕ → Refusal → Type 0

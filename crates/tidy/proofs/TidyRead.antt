@@ -10,7 +10,8 @@ use native.Mathlib.Omega.{arith}
 use lib.ListN.{length, take, drop}
 use Rattle.numbers.specs.Numbers.{Bytes}
 use Rattle.numbers.proofs.NumberLaws.{num-fits}
-use Rattle.answer.specs.declared.Refusal.the-variants.{Table as TableWrong}
+use Rattle.answer.specs.declared.Rule.the-variants.{Table as TableWrong}
+use Rattle.answer.specs.Answers.{refusal}
 use Rattle.answer.specs.declared.Verdict.the-variants.{Accepted}
 use Rattle.answer.specs.declared.Written.{Written}
 use Rattle.answer.specs.declared.Written.the-variants.{Refused as NotWritten}
@@ -136,7 +137,7 @@ read-form s list extents h t e f =
 -- ---- the table before the rest
 
 module _ (pairs s out : List ℕ) where
-  pub table-bad : goodTable pairs ≡ false → outcome (NotWritten TableWrong) out ≡ tidyOf pairs s out
+  pub table-bad : goodTable pairs ≡ false → outcome (NotWritten (refusal TableWrong 0)) out ≡ tidyOf pairs s out
   unfolding tidyOf tidied settled checked tableVerdict
   table-bad e = rw e
 

@@ -9,10 +9,11 @@ ghost use Rattle.segment.specs.Check.{segmentVerdict};
 ghost use Rattle.segment.specs.Meaning.{headingOf, meaningOf};
 ghost use Rattle.segment.specs.Tidy.{tidyForm, outcome, tidyOf};
 ghost use Rattle.put_form.specs.Emit.{Left};
-use key::Kind;
 use answer::Refusal;
+use answer::Rule;
 use answer::Verdict;
 use answer::Written;
+use key::Kind;
 use segment::footer::Footer;
 use segment::header::Header;
 use segment::header::Heading;
@@ -66,7 +67,7 @@ pub fn tidy(pairs: &[u64], seg: &[u8], out: &mut [u8]) -> Written
     ensures { λ r. ⌜ outcome r (now (out .exit)) ≡ tidyOf (now (pairs .entry)) (now (seg .entry)) (now (out .entry)) ⌝ }
 {
     if !table::good(pairs) {
-        return Written::Refused(Refusal::Table);
+        return Written::Refused(Refusal(Rule::Table, 0));
     }
     let numbers = table::copied(pairs);
     let count = pairs.len();

@@ -8,7 +8,8 @@ use native.Mathlib.Omega.{arith}
 use lib.ListN.{length}
 use Rattle.answer.specs.declared.Written.{Written}
 use Rattle.answer.specs.declared.Written.the-variants.{Refused as NotWritten}
-use Rattle.answer.specs.declared.Refusal.the-variants.{Table as TableWrong}
+use Rattle.answer.specs.declared.Rule.the-variants.{Table as TableWrong}
+use Rattle.answer.specs.Answers.{refusal}
 use Rattle.answer.specs.declared.Verdict.the-variants.{Accepted}
 use Rattle.segment.specs.declared.header.Heading.{Heading}
 use Rattle.segment.specs.Format.{v3}
@@ -65,7 +66,7 @@ same-form t bloom entries digests extents = refl
 -- ---- the table before the rest
 
 module _ (pairs : List ℕ) (q : Request) (out : List ℕ) where
-  pub table-bad : goodTable pairs ≡ false → outcome (NotWritten TableWrong) out ≡ writeOf pairs q out
+  pub table-bad : goodTable pairs ≡ false → outcome (NotWritten (refusal TableWrong 0)) out ≡ writeOf pairs q out
   unfolding writeOf wrote settled requestVerdict tableVerdict
   table-bad e = rw e
 

@@ -8,10 +8,11 @@ ghost use Rattle.segment.specs.Tidy.{tidyForm, outcome};
 ghost use Rattle.segment.specs.Write.{requestRules, requested, writeOf};
 ghost use Rattle.put_form.specs.Emit.{Left};
 ghost use Rattle.write.specs.Seal.{asked};
-use key::Kind;
 use answer::Refusal;
+use answer::Rule;
 use answer::Verdict;
 use answer::Written;
+use key::Kind;
 use segment::entry::Entry;
 use segment::header::Heading;
 
@@ -52,7 +53,7 @@ pub fn write(
     ensures { λ r. ⌜ outcome r (now (out .exit)) ≡ writeOf (now (pairs .entry)) (asked t (now (bloom .entry)) (now (entries .entry)) (now (digests .entry)) (now (extents .entry))) (now (out .entry)) ⌝ }
 {
     if !table::good(pairs) {
-        return Written::Refused(Refusal::Table);
+        return Written::Refused(Refusal(Rule::Table, 0));
     }
     let numbers = table::copied(pairs);
     let count = pairs.len();

@@ -19,6 +19,7 @@ use Rattle.segment.specs.Format.{Shape}
 use Rattle.table.specs.Table.{allows}
 use Rattle.segment.specs.Keys.{freshKey}
 use Rattle.segment.specs.Write.{
+  entryPlace,
   entryCount,
   entryNo,
   entryMarks,
@@ -33,7 +34,7 @@ use Rattle.segment.specs.Write.{
   requestRules,
 }
 use Rattle.key.specs.declared.Kind.the-variants.{Entries}
-use Rattle.key.specs.Items.{Item, Items, Stands, itemKey, itemHash, itemDigest, itemSpan, entrySpan}
+use Rattle.key.specs.Items.{Item, Items, Stands, itemKey, itemHash, itemDigest, itemSpan, itemPlace, entrySpan}
 use Rattle.key.proofs.Duplicates.{keys-book}
 use Rattle.write_request.specs.Asked.{MarksAsked, ListsAsked, PlacesAsked, TotalAsked, Asked, RequestAsked}
 
@@ -123,8 +124,8 @@ module _ (sh : Shape) (pairs : List ℕ) where
 
 -- the keys of the entries, as items and as entries
 pub same-keys : (entries digests : List ℕ) (n : ℕ)
-    → firstOver n (freshKey (itemKey Entries digests entries)) ≡ firstOver n (freshKey (entryKey entries digests))
-unfolding itemKey itemHash itemDigest itemSpan entrySpan entryKey entryDigestBytes entryNo
+    → firstOver n (freshKey (itemKey Entries digests entries) (itemPlace Entries)) ≡ firstOver n (freshKey (entryKey entries digests) entryPlace)
+unfolding itemKey itemPlace itemHash itemDigest itemSpan entrySpan entryKey entryDigestBytes entryNo
 same-keys entries digests n = refl
 
 module _ (sh : Shape) (pairs entries digests extents : List ℕ) where

@@ -9,7 +9,8 @@ use borrow.Author.Tests.{leb-true, ltb-true, eqb-true}
 use lib.Dec.{leb, ltb, eqb}
 use lib.ListN.{length}
 use Rattle.answer.specs.declared.Refusal.{Refusal}
-use Rattle.answer.specs.declared.Refusal.the-variants.{Layout, Record, Digest, Extents, Total, List as ListEnd, Large}
+use Rattle.answer.specs.declared.Rule.the-variants.{Layout, Record, Digest, Extents, Total, List as ListEnd, Large}
+use Rattle.answer.specs.Answers.{refusal}
 use Rattle.answer.specs.declared.Verdict.{Verdict}
 use Rattle.answer.specs.declared.Verdict.the-variants.{Accepted, Refused}
 use Rattle.answer.specs.Rules.{must, _then_, firstOver}
@@ -21,6 +22,7 @@ use Rattle.segment.specs.declared.extent.Extent.{Extent}
 use Rattle.segment.specs.Format.{v3}
 use Rattle.segment.specs.Keys.{freshKey}
 use Rattle.segment.specs.Write.{
+  entryPlace,
   entryCount,
   listedExtents,
   entryNo,
@@ -35,7 +37,7 @@ use Rattle.segment.specs.Write.{
   requestRules,
 }
 use Rattle.key.specs.declared.Kind.the-variants.{Entries}
-use Rattle.key.specs.Items.{itemKey}
+use Rattle.key.specs.Items.{itemKey, itemPlace}
 use Rattle.write_entry.specs.Kept.{marksKept, listsKept, placesKept, totalKept}
 use Rattle.write_request.proofs.RequestBook.{same-keys}
 
@@ -46,24 +48,24 @@ must-both : (a b : Bool) (r : Refusal) → (must a r then must b r) ≡ must (a 
 must-both true b r = refl
 must-both false b r = refl
 
-marks-one : (e : Entry) (k : ℕ) → entryMarks e k ≡ must (marksKept (e .visibility) (e .imported) (e .gone) (e .source)) (Record k)
+marks-one : (e : Entry) (k : ℕ) → entryMarks e k ≡ must (marksKept (e .visibility) (e .imported) (e .gone) (e .source)) (refusal Record k)
 unfolding entryMarks marksKept
 marks-one e k = simp must-both
 
 lists-one : (digests extents : List ℕ) (e : Entry) (k : ℕ)
     → entryLists digests extents e k
-    ≡ must (listsKept (e .«digest_start») (e .«digest_length») (length digests) (e .«first_extent») (e .«extent_count») (listedExtents extents)) (ListEnd k)
+    ≡ must (listsKept (e .«digest_start») (e .«digest_length») (length digests) (e .«first_extent») (e .«extent_count») (listedExtents extents)) (refusal ListEnd k)
 unfolding entryLists listsKept
 lists-one digests extents e k = simp must-both
 
-places-one : (e : Entry) (k : ℕ) → entryPlaces e k ≡ must (placesKept (e .gone) (e .«first_extent») (e .«extent_count»)) (Extents k)
+places-one : (e : Entry) (k : ℕ) → entryPlaces e k ≡ must (placesKept (e .gone) (e .«first_extent») (e .«extent_count»)) (refusal Extents k)
 unfolding entryPlaces placesKept
 places-one e k =
     by-test (eqb (e .gone) 1)
     (λ g. rw g (simp must-both))
     (λ g. rw g (simp must-both))
 
-total-one : (es : List Extent) (k : ℕ) → entryTotal v3 es k ≡ must (totalKept es) (Total k)
+total-one : (es : List Extent) (k : ℕ) → entryTotal v3 es k ≡ must (totalKept es) (refusal Total k)
 unfolding entryTotal totalKept
 total-one es k = simp must-both
 
@@ -81,20 +83,20 @@ extents-held start size bytes first count listed gone a b = (
 -- a verdict is that of five rules in order, each with its test
 pub record InFive (v : Verdict) (k : ℕ) (marks lists allowed places total : Bool) : Type 0 where
   pub told : v
-      ≡ (must marks (Record k) then must lists (ListEnd k) then must allowed (Digest k) then must places (Extents k) then must total (Total k))
+      ≡ (must marks (refusal Record k) then must lists (refusal ListEnd k) then must allowed (refusal Digest k) then must places (refusal Extents k) then must total (refusal Total k))
 
 module _ {v : Verdict} {k : ℕ} {m l d p t : Bool} (f : InFive v k m l d p t) where
-  pub lists-stop : m ≡ true → l ≡ false → Refused (ListEnd k) ≡ v
+  pub lists-stop : m ≡ true → l ≡ false → Refused (refusal ListEnd k) ≡ v
   lists-stop a b = rw (f .told, a, b)
 
-  pub digest-stops : m ≡ true → l ≡ true → d ≡ false → Refused (Digest k) ≡ v
+  pub digest-stops : m ≡ true → l ≡ true → d ≡ false → Refused (refusal Digest k) ≡ v
   digest-stops a b c = rw (f .told, a, b, c)
 
-  pub places-stop : m ≡ true → l ≡ true → d ≡ true → p ≡ false → Refused (Extents k) ≡ v
+  pub places-stop : m ≡ true → l ≡ true → d ≡ true → p ≡ false → Refused (refusal Extents k) ≡ v
   places-stop a b c g = rw (f .told, a, b, c, g)
 
   module _ (a : m ≡ true) (b : l ≡ true) (c : d ≡ true) (g : p ≡ true) where
-    pub total-stops : t ≡ false → Refused (Total k) ≡ v
+    pub total-stops : t ≡ false → Refused (refusal Total k) ≡ v
     total-stops h = rw (f .told, a, b, c, g, h)
 
     pub all-kept : t ≡ true → Accepted ≡ v
@@ -110,7 +112,7 @@ entry-five pairs digests extents e k = record { told = rw (marks-one e k, lists-
 
 -- the first of them: its premises are as the call and the test leave them
 pub marks-stop : (pairs digests extents : List ℕ) (e : Entry) (k : ℕ) (t : Bool)
-    → t ≡ marksKept (e .visibility) (e .imported) (e .gone) (e .source) → not t ≡ true → Refused (Record k) ≡ entryRules v3 pairs digests extents e k
+    → t ≡ marksKept (e .visibility) (e .imported) (e .gone) (e .source) → not t ≡ true → Refused (refusal Record k) ≡ entryRules v3 pairs digests extents e k
 marks-stop pairs digests extents e k t p a = rw (entry-five pairs digests extents e k .told, was-false p a)
 
 -- ---- each entry, and the request
@@ -118,16 +120,16 @@ marks-stop pairs digests extents e k t p a = rw (entry-five pairs digests extent
 module _ (pairs entries digests extents : List ℕ) where
   -- a loop has come to k, and nothing is refused below it
   module _ (k : ℕ) (p : firstOver k (entryVerdict v3 pairs entries digests extents) ≡ Accepted) where
-    module _ (e : Entry) (q : e ≡ entryNo entries k) where
-      here : entryVerdict v3 pairs entries digests extents k ≡ entryRules v3 pairs digests extents e k
+    module _ (e : Entry) (q : e ≡ entryNo entries k) (at : ℕ) (w : at ≡ entryPlace k) where
+      here : entryVerdict v3 pairs entries digests extents k ≡ entryRules v3 pairs digests extents e at
       unfolding entryVerdict
-      here = rw q
+      here = rw (q, w)
 
-      pub entry-refused : (n : ℕ) (x : Refusal) → k < n → entryRules v3 pairs digests extents e k ≡ Refused x
+      pub entry-refused : (n : ℕ) (x : Refusal) → k < n → entryRules v3 pairs digests extents e at ≡ Refused x
           → Refused x ≡ firstOver n (entryVerdict v3 pairs entries digests extents)
       entry-refused n x l f = sym (first-refused n k (entryVerdict v3 pairs entries digests extents) x l p (here ∙ f))
 
-      pub entry-passed : entryRules v3 pairs digests extents e k ≡ Accepted → firstOver (k + 1) (entryVerdict v3 pairs entries digests extents) ≡ Accepted
+      pub entry-passed : entryRules v3 pairs digests extents e at ≡ Accepted → firstOver (k + 1) (entryVerdict v3 pairs entries digests extents) ≡ Accepted
       entry-passed f = first-more k (entryVerdict v3 pairs entries digests extents) p (here ∙ f)
 
     pub entries-passed : (n : ℕ) → k ≤ n → n ≤ k → Accepted ≡ firstOver n (entryVerdict v3 pairs entries digests extents)
@@ -136,12 +138,12 @@ module _ (pairs entries digests extents : List ℕ) where
         rw (e, p)
 
   module _ (bloom : ℕ) where
-    pub too-many : 65536 < entryCount entries → Refused Large ≡ requestRules v3 pairs bloom entries digests extents
+    pub too-many : 65536 < entryCount entries → Refused (refusal Large 0) ≡ requestRules v3 pairs bloom entries digests extents
     unfolding requestRules
     too-many a = simp tests
 
     module _ (a : entryCount entries ≤ 65536) where
-      pub bloom-odd : (bloom % 8 ≡ 0 → ⊥) → Refused Layout ≡ requestRules v3 pairs bloom entries digests extents
+      pub bloom-odd : (bloom % 8 ≡ 0 → ⊥) → Refused (refusal Layout 0) ≡ requestRules v3 pairs bloom entries digests extents
       unfolding requestRules
       bloom-odd b = simp tests
 
@@ -152,6 +154,6 @@ module _ (pairs entries digests extents : List ℕ) where
         entries-stop x f = simp (tests, f)
 
         pub keys-told : {v : Verdict} → firstOver (entryCount entries) (entryVerdict v3 pairs entries digests extents) ≡ Accepted
-            → v ≡ firstOver (entryCount entries) (freshKey (itemKey Entries digests entries)) → v ≡ requestRules v3 pairs bloom entries digests extents
+            → v ≡ firstOver (entryCount entries) (freshKey (itemKey Entries digests entries) (itemPlace Entries)) → v ≡ requestRules v3 pairs bloom entries digests extents
         unfolding requestRules
         keys-told f g = g ∙ same-keys entries digests (entryCount entries) ∙ simp (tests, f)

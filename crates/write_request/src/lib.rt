@@ -4,22 +4,24 @@ ghost use mathlib.Core.Path.{_≡_};
 ghost use Rattle.answer.specs.Rules.{firstOver};
 ghost use Rattle.segment.specs.Format.{v3};
 ghost use Rattle.segment.specs.Write.{entryCount, entryRules, entryVerdict, requestRules};
+use answer::Refusal;
+use answer::Rule;
+use answer::Verdict;
 use key::Kind;
+use segment::entry;
+use segment::entry::Entry;
 use write_entry::reach::lists_kept;
 use write_entry::total::EXTENT;
 use write_entry::total::total_kept;
-use answer::Refusal;
-use answer::Verdict;
-use segment::entry::Entry;
 
-// One entry, number k.
-fn check_entry(pairs: &[u64], digests: &[u8], extents: &[u64], e: Entry, k: usize) -> Verdict
-    ensures { λ v. ⌜ v ≡ entryRules v3 (now (pairs .entry)) (now (digests .entry)) (now (extents .entry)) e k ⌝ }
+// One entry, which is refused at a place.
+fn check_entry(pairs: &[u64], digests: &[u8], extents: &[u64], e: Entry, place: u64) -> Verdict
+    ensures { λ v. ⌜ v ≡ entryRules v3 (now (pairs .entry)) (now (digests .entry)) (now (extents .entry)) e place ⌝ }
 {
     let bytes = digests.len() as u64;
     let count = (extents.len() / EXTENT) as u64;
     if !write_entry::marks_kept(e.visibility, e.imported, e.gone, e.source) {
-        return Verdict::Refused(Refusal::Record(k as u64));
+        return Verdict::Refused(Refusal(Rule::Record, place));
     }
     if !lists_kept(
         e.digest_start,
@@ -29,16 +31,16 @@ fn check_entry(pairs: &[u64], digests: &[u8], extents: &[u64], e: Entry, k: usiz
         e.extent_count,
         count,
     ) {
-        return Verdict::Refused(Refusal::List(k as u64));
+        return Verdict::Refused(Refusal(Rule::List, place));
     }
     if !table::allows(pairs, e.hash_id, e.digest_length) {
-        return Verdict::Refused(Refusal::Digest(k as u64));
+        return Verdict::Refused(Refusal(Rule::Digest, place));
     }
     if !write_entry::places_kept(e.gone, e.first_extent, e.extent_count) {
-        return Verdict::Refused(Refusal::Extents(k as u64));
+        return Verdict::Refused(Refusal(Rule::Extents, place));
     }
     if !total_kept(extents, e.first_extent, e.extent_count) {
-        return Verdict::Refused(Refusal::Total(k as u64));
+        return Verdict::Refused(Refusal(Rule::Total, place));
     }
     Verdict::Accepted
 }
@@ -50,7 +52,13 @@ fn check_entries(pairs: &[u64], entries: &[u64], digests: &[u8], extents: &[u64]
     let count = entries.len() / Entry::SIZE;
     let mut k = 0;
     while k < count {
-        match check_entry(pairs, digests, extents, Entry::at(entries, k), k) {
+        match check_entry(
+            pairs,
+            digests,
+            extents,
+            Entry::at(entries, k),
+            entry::place_of(k),
+        ) {
             Verdict::Refused(x) => {
                 return Verdict::Refused(x);
             }
@@ -73,10 +81,10 @@ pub fn check_request(
 {
     let n = entries.len() / Entry::SIZE;
     if 65536 < n {
-        return Verdict::Refused(Refusal::Large);
+        return Verdict::Refused(Refusal(Rule::Large, 0));
     }
     if bloom % 8 != 0 {
-        return Verdict::Refused(Refusal::Layout);
+        return Verdict::Refused(Refusal(Rule::Layout, 0));
     }
     match check_entries(pairs, entries, digests, extents) {
         Verdict::Refused(x) => {

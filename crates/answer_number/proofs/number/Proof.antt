@@ -1,6 +1,6 @@
 -- `answer_number::number` meets its contract: each refusal has its number.
 use mathlib.Core.Path.{sym, ap}
-use Rattle.answer.specs.Answers.{numberOf}
+use Rattle.answer.specs.Answers.{ruleNumber}
 use Rattle.answer_number.proofs.number.Statement.{statement}
 use Rattle.answer_number.proofs.number.Tie as tie
 
@@ -25,20 +25,20 @@ number-spec =
     (λ c. c .match .keys15)
     (λ c. c .match .keys16)
     (λ c. c .match .keys17)
-    (λ c. sym (ap numberOf (c .enum-told .given .1)))
-    (λ c. sym (ap numberOf (c .enum-told2 .given .1)))
-    (λ c. sym (ap numberOf (c .enum-told3 .given .1)))
-    (λ c. sym (ap numberOf (c .enum-told4 .given .1)))
-    (λ c. sym (ap numberOf (c .enum-told5 .given .1)))
-    (λ c. sym (ap numberOf (c .enum-told6 .given .1)))
-    (λ c. sym (ap numberOf (c .enum-told7 .given .1)))
-    (λ c. sym (ap numberOf (c .enum-told8 .given .1)))
-    (λ c. sym (ap numberOf (c .enum-told9 .given .1)))
-    (λ c. sym (ap numberOf (c .enum-told10 .given .1)))
-    (λ c. sym (ap numberOf (c .enum-told11 .given .1)))
-    (λ c. sym (ap numberOf (c .enum-told12 .given .1)))
-    (λ c. sym (ap numberOf (c .enum-told13 .given .1)))
-    (λ c. sym (ap numberOf (c .enum-told14 .given .1)))
-    (λ c. sym (ap numberOf (c .enum-told15 .given .1)))
-    (λ c. sym (ap numberOf (c .enum-told16 .given .1)))
-    (λ c. sym (ap numberOf (c .enum-told17 .given .1))))
+    (λ c. sym (ap ruleNumber (c .enum-told .given .1)))
+    (λ c. sym (ap ruleNumber (c .enum-told2 .given .1)))
+    (λ c. sym (ap ruleNumber (c .enum-told3 .given .1)))
+    (λ c. sym (ap ruleNumber (c .enum-told4 .given .1)))
+    (λ c. sym (ap ruleNumber (c .enum-told5 .given .1)))
+    (λ c. sym (ap ruleNumber (c .enum-told6 .given .1)))
+    (λ c. sym (ap ruleNumber (c .enum-told7 .given .1)))
+    (λ c. sym (ap ruleNumber (c .enum-told8 .given .1)))
+    (λ c. sym (ap ruleNumber (c .enum-told9 .given .1)))
+    (λ c. sym (ap ruleNumber (c .enum-told10 .given .1)))
+    (λ c. sym (ap ruleNumber (c .enum-told11 .given .1)))
+    (λ c. sym (ap ruleNumber (c .enum-told12 .given .1)))
+    (λ c. sym (ap ruleNumber (c .enum-told13 .given .1)))
+    (λ c. sym (ap ruleNumber (c .enum-told14 .given .1)))
+    (λ c. sym (ap ruleNumber (c .enum-told15 .given .1)))
+    (λ c. sym (ap ruleNumber (c .enum-told16 .given .1)))
+    (λ c. sym (ap ruleNumber (c .enum-told17 .given .1))))

@@ -16,18 +16,18 @@ abbrev μ-loop : tie.MeasureT-loop
 refused : tie.Need-returns Inv-loop μ-loop
 refused c =
     let said = c .before .before .before in
-    let at = said .before in
-    pass-refused _ _ _ _ _ _ (at .before .before .loop .inv .1) (at .at .ensures) _ _ (omega arith)
+    let at = said .before .before in
+    pass-refused _ _ _ _ _ _ (at .before .before .loop .inv .1) (at .at .ensures) _ (said .before .place-of .ensures) _ _ (omega arith)
     (sym (said .check-record .ensures) ∙ c .before .x .given .1)
 
 more : tie.Need-loop-again Inv-loop μ-loop
 more c =
     let passed = c .before .before in
     let said = passed .before .before in
-    let at = said .before in
+    let at = said .before .before in
     let largest = at .before .before .loop .largest in (
       omega arith,
-      pass-more _ _ _ _ _ _ (at .before .before .loop .inv .1) (at .at .ensures) _ (sym (said .check-record .ensures) ∙ passed .enum-told .given .1)
+      pass-more _ _ _ _ _ _ (at .before .before .loop .inv .1) (at .at .ensures) _ (said .before .place-of .ensures) _ (sym (said .check-record .ensures) ∙ passed .enum-told .given .1)
           (c .larger .ensures ∙ ap (max largest) (c .before .«counts-with» .ensures)),
     )
 
@@ -41,6 +41,7 @@ check-records-spec =
     (λ c. omega arith)
     (λ c. omega arith)
     (λ c κs. omega arith)
+    (λ c κs. search needs)
     (λ c κs. search needs)
     (λ c. search needs)
     refused

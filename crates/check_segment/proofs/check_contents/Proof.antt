@@ -2,6 +2,7 @@
 use mathlib.Core.Path.{sym, _∙_}
 use borrow.Author.Needs.{needs}
 use native.Mathlib.Omega.{arith}
+use Rattle.key.proofs.Duplicates.{keys-book}
 use Rattle.key_ascending.proofs.Climbing.{none-twice}
 use Rattle.check_segment.proofs.SegmentOrder.{contents-stop, shown-wrong, all-passed, records-stand, keys-told}
 use Rattle.check_segment.proofs.check_contents.Statement.{statement}
@@ -16,7 +17,7 @@ asked c κs =
 climbing : tie.Need-returns-3
 climbing c =
     let at = c .before .before .before .before .before in
-    let new = sym (none-twice _ _ _ _ (sym (c .before .keys-climb .ensures) ∙ c .if2 .taken)) in
+    let new = sym (keys-book _ _ _ .1 (none-twice _ _ _ _ (sym (c .before .keys-climb .ensures) ∙ c .if2 .taken))) in
     keys-told _ _ _ (at .v .given .0 .0) (sym (at .v .given .1) ∙ at .before .before .check-records .ensures) (omega arith) new
 
 readable : tie.Need-check-keys-requires

@@ -4,11 +4,13 @@ use mathlib.Core.Path.{_≡_}
 use mathlib.Core.Bool.{false}
 use mathlib.Core.Logic.{⊎-elim}
 use native.Mathlib.Omega.{arith}
+use borrow.Author.Needs.{needs}
 use Rattle.answer.specs.declared.Verdict.the-variants.{Accepted}
 use Rattle.answer.specs.Rules.{firstOver, someBelow}
 use Rattle.answer.proofs.Order.{none-yet}
+use Rattle.key.proofs.Duplicates.{keys-book}
 use Rattle.segment.specs.Keys.{sameKey, freshKey}
-use Rattle.key.specs.Items.{itemKey}
+use Rattle.key.specs.Items.{itemKey, itemPlace}
 use Rattle.key_duplicate.proofs.Scanning.{another, passed, found-twice, found-nowhere, stopped-before, stopped-at-end}
 use Rattle.key_duplicate.proofs.scan_keys.Statement.{statement}
 use Rattle.key_duplicate.proofs.scan_keys.Tie as tie
@@ -20,7 +22,7 @@ abbrev μ-loop : tie.MeasureT-loop
 μ-loop kind bytes list known n i j₀ j = i - j
 
 abbrev Inv-pairs : tie.InvT-pairs
-Inv-pairs kind bytes list known n i₀ i = (i ≤ n) × (firstOver i (freshKey (itemKey kind bytes list)) ≡ Accepted)
+Inv-pairs kind bytes list known n i₀ i = (i ≤ n) × (firstOver i (freshKey (itemKey kind bytes list) (itemPlace kind)) ≡ Accepted)
 
 abbrev μ-pairs : tie.MeasureT-pairs
 μ-pairs kind bytes list known n i₀ i = n - i
@@ -39,20 +41,20 @@ differs c =
 new : tie.Need-pairs-again Inv-loop μ-loop Inv-pairs μ-pairs
 new c =
     let loop = c .before .loop in
-    passed _ _ (c .before .before .before .pairs .inv .1) _ (loop .j) (c .before .before .if1 .left) (c .loop-test .left) (loop .inv .0) (loop .inv .1)
+    passed _ _ _ (c .before .before .before .pairs .inv .1) _ (loop .j) (c .before .before .if1 .left) (c .loop-test .left) (loop .inv .0) (loop .inv .1)
 
 duplicate : tie.Need-returns Inv-loop μ-loop Inv-pairs μ-pairs
 duplicate c =
     ⊎-elim
-    (λ w. stopped-before _ _ (w .1) (c .if3 .taken))
-    (λ w. found-twice _ _ (c .before .before .pairs .inv .1) _ (w .1 .j) _ (w .5) (c .if3 .taken) (w .2 .taken) (w .3 .ensures) (w .4 .taken))
-    (c .before .if1 .came)
+    (λ w. stopped-before _ _ (w .1) (c .before .if3 .taken))
+    (λ w. found-twice _ _ _ (c .before .before .before .pairs .inv .1) _ (w .1 .j) _ (w .5) (c .before .if3 .taken) (w .2 .taken) (w .3 .ensures) (w .4 .taken) (c .place-of .ensures))
+    (c .before .before .if1 .came)
 
 all-new : tie.Need-returns-2 Inv-loop μ-loop Inv-pairs μ-pairs
 all-new c =
     let p = c .before .before .pairs in
     ⊎-elim
-    (λ w. found-nowhere _ _ (p .inv .1) _ (p .inv .0) (w .0 .taken))
+    (λ w. found-nowhere _ _ _ (p .inv .1) _ (p .inv .0) (w .0 .taken))
     (λ w. stopped-at-end _ _ _ (w .5) (w .0 .left) (c .if3 .left))
     (c .before .if1 .came)
 
@@ -64,7 +66,7 @@ scan-keys-spec =
     μ-loop
     Inv-pairs
     μ-pairs
-    (λ c. let start = c .before .before in (start .pre .1 .within, start .pre .1 .fresh))
+    (λ c. let start = c .before .before in (start .pre .1 .within, keys-book _ _ _ .1 (start .pre .1 .fresh)))
     (λ c. (omega arith, none-yet _))
     can-read
     (λ c. omega arith)
@@ -73,5 +75,6 @@ scan-keys-spec =
     (λ c. omega arith)
     (λ c. omega arith)
     new
+    (λ c κs. search needs)
     duplicate
     all-new)

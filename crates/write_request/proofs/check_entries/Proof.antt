@@ -21,15 +21,15 @@ abbrev μ-loop : tie.MeasureT-loop
 refused : tie.Need-returns Inv-loop μ-loop
 refused c =
     let said = c .before .before .before in
-    let read = said .before in
-    entry-refused _ _ _ _ _ (read .before .before .loop .inv .1) _ (read .at .ensures) _ _ (omega arith)
+    let read = said .before .before in
+    entry-refused _ _ _ _ _ (read .before .before .loop .inv .1) _ (read .at .ensures) _ (said .before .place-of .ensures) _ _ (omega arith)
     (sym (said .check-entry .ensures) ∙ c .before .x .given .1)
 
 passed : tie.Need-loop-again Inv-loop μ-loop
 passed c =
     let said = c .before .before in
-    let read = said .before in
-    (omega arith, entry-passed _ _ _ _ _ (read .before .before .loop .inv .1) _ (read .at .ensures) (sym (said .check-entry .ensures) ∙ c .enum-told .given .1))
+    let read = said .before .before in
+    (omega arith, entry-passed _ _ _ _ _ (read .before .before .loop .inv .1) _ (read .at .ensures) _ (said .before .place-of .ensures) (sym (said .check-entry .ensures) ∙ c .enum-told .given .1))
 
 pub check-entries-spec : {M : Type 1} → statement M
 check-entries-spec =
@@ -39,6 +39,7 @@ check-entries-spec =
     μ-loop
     (λ c. (omega arith, first-none _))
     (λ c κs. omega arith)
+    (λ c κs. search needs)
     (λ c κs. search needs)
     (λ c. search needs)
     refused

@@ -1,6 +1,7 @@
 -- `write_request::check_request` meets its contract: the count, the bloom bytes, the entries, and then their keys.
 use mathlib.Core.Path.{sym, _∙_}
 use borrow.Author.Needs.{needs}
+use Rattle.key.proofs.Duplicates.{keys-book}
 use Rattle.key_ascending.proofs.Climbing.{none-twice}
 use Rattle.write_request.proofs.RequestBook.{entries-book, entries-stand}
 use Rattle.write_request.proofs.RequestOrder.{too-many, bloom-odd, entries-stop, keys-told}
@@ -19,7 +20,7 @@ climbing : tie.Need-returns-4
 climbing c =
     let at = c .before .before in
     let said = at .before .before in
-    let new = sym (none-twice _ _ _ _ (sym (c .before .keys-climb .ensures) ∙ c .if3 .taken)) in
+    let new = sym (keys-book _ _ _ .1 (none-twice _ _ _ _ (sym (c .before .keys-climb .ensures) ∙ c .if3 .taken))) in
     keys-told _ _ _ _ _ (said .before .before .if1 .left) (said .before .if2 .left) (sym (said .check-entries .ensures) ∙ at .enum-told .given .1) new
 
 readable : tie.Need-check-keys-requires
