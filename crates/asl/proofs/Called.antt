@@ -14,6 +14,7 @@ use Rattle.answer.specs.declared.Written.{Written}
 use Rattle.answer.specs.declared.Written.the-variants.{Refused as NotWritten}
 use Rattle.answer.specs.Answers.{refusal, numberOf, placeOf, checkAnswer, foundAnswer, writtenAnswer}
 use Rattle.answer.proofs.Settled.{found-settled}
+use Rattle.segment.specs.Keys.{Key}
 use Rattle.segment.specs.Check.{checkOf}
 use Rattle.segment.specs.LookUp.{lookedUp, lookUpOf}
 use Rattle.segment.specs.Tidy.{Outcome, outcome, tidyOf}
@@ -43,15 +44,15 @@ module _ (bytes table : List ℕ) (count : ℕ) (l : Copied bytes table count) w
     told-refused e g h = rw (g, h) (sym (ap checkAnswer e) ∙ checked-alike)
 
   -- look up
-  module _ (s : List ℕ) (hash : ℕ) (digest : List ℕ) (f : Found) (c : foundAnswer f ≡ lookUpOf part s hash digest) where
-    found-alike : f ≡ lookedUp (tableIn bytes) s hash digest
+  module _ (s : List ℕ) (key : Key) (f : Found) (c : foundAnswer f ≡ lookUpOf part s key) where
+    found-alike : f ≡ lookedUp (tableIn bytes) s key
     unfolding lookUpOf
     found-alike =
-        found-settled f (lookedUp (tableIn bytes) s hash digest)
-        (c ∙ alike-said (λ p. lookUpOf p s hash digest) (foundAnswer (NotFound (refusal TableWrong 0))) (λ p. look-up-bad p s hash digest) l)
+        found-settled f (lookedUp (tableIn bytes) s key)
+        (c ∙ alike-said (λ p. lookUpOf p s key) (foundAnswer (NotFound (refusal TableWrong 0))) (λ p. look-up-bad p s key) l)
 
     pub looked-up : (a : Reply) (n p : ℕ) (found after : List ℕ) → a ≡ replyOf f → lookedUpBy n p after ≡ replyLeft a found
-        → lookedUpBy n p after ≡ replyLeft (replyOf (lookedUp (tableIn bytes) s hash digest)) found
+        → lookedUpBy n p after ≡ replyLeft (replyOf (lookedUp (tableIn bytes) s key)) found
     looked-up a n p found after e g = g ∙ ap (λ (b : Reply). replyLeft b found) (e ∙ ap replyOf found-alike)
 
   -- tidy and write

@@ -1,6 +1,7 @@
 // The entry points for C (include/asl.h). Each is total by its own checks, returns 0 or a refusal's number, and where it refuses
 // changes nothing but the place. A table is lent as bytes, eight to a number.
 ghost use mathlib.Core.Path.{_≡_};
+ghost use Rattle.segment.specs.Keys.{keyFrom};
 ghost use Rattle.segment.specs.Check.{checkOf};
 ghost use Rattle.segment.specs.LookUp.{lookedUp};
 ghost use Rattle.segment.specs.Tidy.{tidyOf};
@@ -36,7 +37,7 @@ pub extern "C" fn asl_look_up(
     found: &mut [u64],
     place: &mut u64,
 ) -> u64
-    ensures { λ r. ⌜ lookedUpBy r (now (place .exit)) (now (found .exit)) ≡ replyLeft (replyOf (lookedUp (tableIn (now (table .entry))) (now (segment .entry)) «hash_id» (now (digest .entry)))) (now (found .entry)) ⌝ }
+    ensures { λ r. ⌜ lookedUpBy r (now (place .exit)) (now (found .exit)) ≡ replyLeft (replyOf (lookedUp (tableIn (now (table .entry))) (now (segment .entry)) (keyFrom «hash_id» (now (digest .entry))))) (now (found .entry)) ⌝ }
 {
     let numbers = c_table::numbers_in(table);
     let count = c_table::count_in(table);

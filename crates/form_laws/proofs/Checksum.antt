@@ -89,7 +89,7 @@ module _ (sh : Shape) (pairs : List ℕ) where
   digests : (rs : List Row) → Each (Writable sh pairs) rs → AreBytes (digestBytes rs)
   unfolding digestBytes Each
   digests [] w = none
-  digests (r ∷ rs) w = joined {xs = r .digest} (record { bytes = w .0 .digest }) (digests rs (w .1))
+  digests (r ∷ rs) w = joined {xs = r .key .digest} (record { bytes = w .0 .digest }) (digests rs (w .1))
 
   module _ (t : Heading) (bloom : List ℕ) (rs : List Row) (b : Bytes bloom) (w : Each (Writable sh pairs) rs) where
     body : AreBytes (formBody sh t bloom rs)

@@ -8,6 +8,7 @@ use mathlib.Core.List.{List, [], _∷_, map}
 use native.Mathlib.Nat.{not-suc-le-zero}
 use native.Mathlib.Omega.{arith}
 use lib.ListN.{length, length-append}
+use Rattle.segment.specs.Keys.{keyFrom}
 use Rattle.segment.specs.declared.header.Header.{Header}
 use Rattle.segment.specs.declared.record.Record.{Record}
 use Rattle.segment.specs.Format.{Shape, fileLimit, recordOf, recordsOffset, digestsOffset, digestsSize, extentsOffset, extentCount, recordNo}
@@ -59,13 +60,13 @@ module _ (sh : Shape) (k : Shaped sh) (pairs s : List ℕ) (h : Header) (o : Bou
     unfolding Each
     writable = p .rows .0
 
-    digest-has : HasAt s digestAt (r .digest)
+    digest-has : HasAt s digestAt (r .key .digest)
     unfolding digestBytes
-    digest-has = has-left (r .digest) (digestBytes rs) (p .digests)
+    digest-has = has-left (r .key .digest) (digestBytes rs) (p .digests)
 
-    digest-ends : digestAt + length (r .digest) + length (digestBytes rs) ≤ digestsOffset h + digestsSize h
+    digest-ends : digestAt + length (r .key .digest) + length (digestBytes rs) ≤ digestsOffset h + digestsSize h
     unfolding digestBytes
-    digest-ends = omega (arith, p .digestsTo, length-append (r .digest) (digestBytes rs))
+    digest-ends = omega (arith, p .digestsTo, length-append (r .key .digest) (digestBytes rs))
 
     extents-have : HasAt s extentsAt (extentListBytes (rowExtents r))
     unfolding extentBytes
@@ -103,10 +104,10 @@ module _ (sh : Shape) (k : Shaped sh) (pairs s : List ℕ) (h : Header) (o : Bou
     row-read : rowOf s first ≡ r
     unfolding rowOf recordFor digestIn
     row-read =
-        let digest = has-taken (r .digest) (length (r .digest)) digest-has refl in
+        let digest = has-taken (r .key .digest) (length (r .key .digest)) digest-has refl in
         let source = source-read (r .source) in
         let state = state-read sh s first (r .state) extentsAt (says (h .domain) r digestAt extentsAt) (writable .state) extents-have in
-        λ j. record { hashId = r .hashId; digest = digest j; visibility = r .visibility; source = source j; state = state j }
+        λ j. record { key = keyFrom (r .key .hashId) (digest j); visibility = r .visibility; source = source j; state = state j }
 
     first-meets : RecordMeets sh pairs s h first
     unfolding recordFor
@@ -133,11 +134,11 @@ module _ (sh : Shape) (k : Shaped sh) (pairs s : List ℕ) (h : Header) (o : Bou
     first-reads = rw first-read (record { row = row-read; meets = first-meets })
 
     -- and the others stand behind it
-    others : Placed sh pairs s h rs (at + sh .recordSize) (digestAt + length (r .digest)) (extentsAt + 16 * length (rowExtents r))
+    others : Placed sh pairs s h rs (at + sh .recordSize) (digestAt + length (r .key .digest)) (extentsAt + 16 * length (rowExtents r))
     unfolding recordsBytes digestBytes extentBytes Each
     others = record {
       records = rw (record-long sh k first) at (has-right (packed (recordFields sh first)) _ (p .records));
-      digests = has-right (r .digest) (digestBytes rs) (p .digests);
+      digests = has-right (r .key .digest) (digestBytes rs) (p .digests);
       extents = rw (extents-long (rowExtents r)) at (has-right (extentListBytes (rowExtents r)) (extentBytes rs) (p .extents));
       digestsFrom = omega (arith, p .digestsFrom);
       digestsTo = digest-ends;

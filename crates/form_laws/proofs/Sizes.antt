@@ -51,7 +51,7 @@ module _ (sh : Shape) (k : Shaped sh) where
   unfolding recordsBytes
   records-long domain [] digestAt extentsAt = omega arith
   records-long domain (r ∷ rs) digestAt extentsAt =
-      let d = digestAt + length (r .digest) in
+      let d = digestAt + length (r .key .digest) in
       let e = extentsAt + 16 * length (rowExtents r) in
       length-append (packed (recordFields sh (recordFor domain r digestAt extentsAt))) (recordsBytes sh domain rs d e)
       ∙ omega (arith, record-long sh k (recordFor domain r digestAt extentsAt), records-long domain rs d e)

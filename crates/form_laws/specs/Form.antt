@@ -15,7 +15,7 @@ use Rattle.numbers.specs.Numbers.{Bytes}
 use Rattle.segment.specs.declared.header.Heading.{Heading}
 use Rattle.segment.specs.declared.extent.Extent.{Extent}
 use Rattle.segment.specs.Format.{Shape, fileLimit, recordLimit, blockEnd}
-use Rattle.table.specs.Table.{allows}
+use Rattle.segment.specs.Keys.{allowsKey}
 use Rattle.segment.specs.Check.{sumLengths}
 use Rattle.segment.specs.Meaning.{State, gone, live, Row, rowKey, Meaning}
 use Rattle.segment.specs.Tidy.{domainOf, formOf, tidyForm}
@@ -42,10 +42,10 @@ StateWritable sh gone = Unit
 StateWritable sh (live es) = LiveWritable sh es
 
 pub record Writable (sh : Shape) (pairs : List ℕ) (r : Row) : Type 0 where
-  pub hash : r .hashId < 4294967296
-  pub digest : Bytes (r .digest)
-  pub size : length (r .digest) < 65536
-  pub allowed : allows pairs (r .hashId) (length (r .digest)) ≡ true
+  pub hash : r .key .hashId < 4294967296
+  pub digest : Bytes (r .key .digest)
+  pub size : length (r .key .digest) < 65536
+  pub allowed : allowsKey pairs (r .key) ≡ true
   pub visibility : r .visibility ≤ 1
   pub source : domainOf (r .source) < 4294967296
   pub state : StateWritable sh (r .state)

@@ -1,3 +1,4 @@
 pub mod KeyColumns
+pub mod HeadNumbers
 pub mod Duplicates
 pub mod ItemOrder

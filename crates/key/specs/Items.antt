@@ -1,7 +1,8 @@
 -- The items whose keys are compared: the records of a segment, or the entries that write is lent. The bytes are the segment's, or the
 -- run of digest bytes; the list is not read for records, and holds the entries.
 --   itemHash, itemSpan   an item's hash id, and where its digest lies in the bytes
---   itemDigest, itemKey  its digest, and its key
+--   itemDigest, itemHead its digest, and what its key holds beside it
+--   itemKey              its key
 --   itemPlace            the place of a refusal of an item
 --   Item, Items          one item, and each of n items, can be read
 -- Assumes nothing: these are definitions.
@@ -9,12 +10,13 @@ use Prim.Native.Nat.{ℕ, _+_, _*_, _≤_, _<_}
 use mathlib.Core.List.{List}
 use lib.ListN.{length, getD, take, drop}
 use Rattle.segment.specs.Format.{v3, recordOf}
-use Rattle.segment.specs.Keys.{keyOf}
+use Rattle.segment.specs.Keys.{keyOf, keyFrom}
 use Rattle.segment.specs.Check.{placeFrom}
 use Rattle.segment.specs.Write.{entryPlace}
 use Rattle.key.specs.declared.Kind.{Kind}
 use Rattle.key.specs.declared.Kind.the-variants.{Records, Entries}
 use Rattle.key.specs.declared.Span.{Span}
+use Rattle.key.specs.declared.head.Head.{Head}
 
 -- where the digest of a record lies, and of an entry whose nine numbers begin at a place of the list
 unfoldable pub recordSpan : List ℕ → ℕ → Span
@@ -34,8 +36,11 @@ itemSpan Entries bytes list k = entrySpan list (9 * k)
 unfoldable pub itemDigest : Kind → List ℕ → List ℕ → ℕ → List ℕ
 itemDigest kind bytes list k = take (itemSpan kind bytes list k .size) (drop (itemSpan kind bytes list k .start) bytes)
 
+unfoldable pub itemHead : Kind → List ℕ → List ℕ → ℕ → Head
+itemHead kind bytes list k = record { «hash_id» = itemHash kind bytes list k }
+
 unfoldable pub itemKey : Kind → List ℕ → List ℕ → ℕ → List ℕ
-itemKey kind bytes list k = keyOf (itemHash kind bytes list k) (itemDigest kind bytes list k)
+itemKey kind bytes list k = keyOf (keyFrom (itemHash kind bytes list k) (itemDigest kind bytes list k))
 
 -- the place of a refusal of an item
 unfoldable pub itemPlace : Kind → ℕ → ℕ

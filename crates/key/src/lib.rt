@@ -3,9 +3,12 @@
 ghost use mathlib.Core.Path.{_≡_};
 ghost use Prim.Native.Nat.{_+_, _≤_};
 ghost use lib.ListN.{length};
-ghost use Rattle.key.specs.Items.{recordSpan, entrySpan, Item, itemHash, itemSpan, itemDigest, itemPlace};
+ghost use Rattle.key.specs.Items.{recordSpan, entrySpan, Item, itemHash, itemHead, itemSpan, itemDigest, itemPlace};
+use crate::head::Head;
 use field_record::record;
 use segment::record::Record;
+
+pub mod head;
 
 // The records that begin at a byte of the segment, or the entries of a flat list, nine numbers each.
 pub enum Kind {
@@ -19,13 +22,23 @@ pub struct Span {
     pub size: usize,
 }
 
-pub fn hash_of(kind: Kind, bytes: &[u8], list: &[u64], k: usize) -> u64
+fn hash_of(kind: Kind, bytes: &[u8], list: &[u64], k: usize) -> u64
     requires { ⌜ Item kind (now bytes) (now list) k ⌝ }
     ensures { λ r. ⌜ r ≡ itemHash kind (now (bytes .entry)) (now (list .entry)) k ⌝ }
 {
     match kind {
         Kind::Records(at) => record::hash_id(bytes, at + Record::SIZE * k) as u64,
         Kind::Entries => list[9 * k],
+    }
+}
+
+// What an item's key holds beside its digest.
+pub fn head_of(kind: Kind, bytes: &[u8], list: &[u64], k: usize) -> Head
+    requires { ⌜ Item kind (now bytes) (now list) k ⌝ }
+    ensures { λ r. ⌜ r ≡ itemHead kind (now (bytes .entry)) (now (list .entry)) k ⌝ }
+{
+    Head {
+        hash_id: hash_of(kind, bytes, list, k),
     }
 }
 

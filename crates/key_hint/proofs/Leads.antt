@@ -13,7 +13,10 @@ use lib.Seq.{getD-drop}
 use Rattle.lists.proofs.Tests.{by-test}
 use Rattle.lists.specs.Lists.{lexLeq}
 use Rattle.key.specs.declared.Kind.{Kind}
-use Rattle.key.specs.Items.{itemHash, itemDigest, itemKey}
+use Rattle.segment.specs.Keys.{keyOf}
+use Rattle.key.specs.declared.head.Head.{Head}
+use Rattle.key.specs.Heads.{headKey}
+use Rattle.key.specs.Items.{itemHead, itemDigest, itemKey}
 use Rattle.key.specs.ItemOrder.{itemLeq}
 use Rattle.key_hint.specs.Leading.{leading, Digit, itemHint, Hinted}
 
@@ -85,45 +88,67 @@ lead-stops : (n : ℕ) (xs : List ℕ) → 255 ≤ getD xs 0 0 → leading (suc 
 lead-stops n [] h = absurd (omega arith)
 lead-stops n (x ∷ xs) h = lead-large n x xs h
 
-lead-last : (xs : List ℕ) → getD xs 0 0 ≤ 255 → leading 1 xs ≡ getD xs 0 0
+lead-last : (xs : List ℕ) {r : ℕ} → Digit xs 0 r → r ≡ leading 1 xs
 unfolding leading
-lead-last xs h = by-test (ltb (getD xs 0 0) 255)
-    (λ t. let k = ltb-true (getD xs 0 0) 255 t in omega (arith, lead-goes 0 xs k))
-    (λ f. let k = ltb-false (getD xs 0 0) 255 f in omega (arith, lead-stops 0 xs k))
+lead-last xs d = by-test (ltb (getD xs 0 0) 255)
+    (λ t. let k = ltb-true (getD xs 0 0) 255 t in omega (arith, lead-goes 0 xs k, d .goes k))
+    (λ f. let k = ltb-false (getD xs 0 0) 255 f in omega (arith, lead-stops 0 xs k, d .stops k))
 
--- ---- the three digits of a digest
+-- one digit, and then the others
+digit-stops : (n : ℕ) (xs : List ℕ) {r : ℕ} → Digit xs 0 r → r ≡ 255 → leading (suc n) xs ≡ 255 * 256 ^ n
+digit-stops n xs d e = by-test (ltb (getD xs 0 0) 255)
+    (λ t. let h = ltb-true (getD xs 0 0) 255 t in absurd (omega (arith, d .goes h)))
+    (λ f. lead-stops n xs (ltb-false (getD xs 0 0) 255 f))
 
-module _ (d : List ℕ) {x : ℕ} (first : Digit d 0 x) where
-  pub first-stops : x ≡ 255 → 16711680 ≡ leading 3 d
-  first-stops e = sym (lead-stops 2 d (omega (arith, first .told)))
+digit-goes : (n : ℕ) (xs : List ℕ) {r : ℕ} → Digit xs 0 r → (r ≡ 255 → ⊥) → leading (suc n) xs ≡ r * 256 ^ n + leading n (drop 1 xs)
+digit-goes n xs {r} d e = by-test (ltb (getD xs 0 0) 255)
+    (λ t. let h = ltb-true (getD xs 0 0) 255 t in rw (d .goes h) (lead-goes n xs h))
+    (λ f. absurd (e (d .stops (ltb-false (getD xs 0 0) 255 f))))
 
-  module _ (h : x ≡ 255 → ⊥) {y : ℕ} (next : Digit d 1 y) where
-    first-goes : leading 3 d ≡ x * 65536 + leading 2 (drop 1 d)
-    first-goes = rw (first .told) (lead-goes 2 d (omega (arith, h, first .told, first .most)))
+next-digit : (xs : List ℕ) (k : ℕ) {r : ℕ} → Digit xs (suc k) r → Digit (drop 1 xs) k r
+next-digit [] k d = record { goes = d .goes; stops = d .stops; most = d .most }
+next-digit (x ∷ xs) k d = record { goes = d .goes; stops = d .stops; most = d .most }
 
-    pub second-stops : y ≡ 255 → x * 65536 + 65280 ≡ leading 3 d
-    second-stops e = omega (arith, first-goes, lead-stops 1 (drop 1 d) (omega (arith, next .told, getD-drop 1 d 0 0)))
+-- ---- the four digits of a key
 
-    pub third-ends : (y ≡ 255 → ⊥) → {z : ℕ} → Digit d 2 z → x * 65536 + y * 256 + z ≡ leading 3 d
-    third-ends k {z} last =
-        let g = getD-drop 1 d 0 0 in
-        let e = getD-drop 1 (drop 1 d) 0 0 ∙ getD-drop 1 d 1 0 in
-        omega (arith, first-goes, lead-goes 1 (drop 1 d) (omega (arith, k, next .told, next .most, g)), lead-last (drop 1 (drop 1 d)) (omega (arith, last .told, last .most, e)), e, g, next .told, last .told)
+module _ (xs : List ℕ) {w : ℕ} (first : Digit xs 0 w) where
+  pub first-stops : w ≡ 255 → 4278190080 ≡ leading 4 xs
+  first-stops e = sym (digit-stops 3 xs first e)
+
+  module _ (h : w ≡ 255 → ⊥) {x : ℕ} (second : Digit xs 1 x) where
+    from-second : leading 4 xs ≡ w * 16777216 + leading 3 (drop 1 xs)
+    from-second = digit-goes 3 xs first h
+
+    pub second-stops : x ≡ 255 → w * 16777216 + 16711680 ≡ leading 4 xs
+    second-stops e = omega (arith, from-second, digit-stops 2 (drop 1 xs) (next-digit xs 0 second) e)
+
+    module _ (k : x ≡ 255 → ⊥) {y : ℕ} (third : Digit xs 2 y) where
+      rest : List ℕ
+      rest = drop 1 (drop 1 xs)
+
+      from-third : leading 4 xs ≡ w * 16777216 + x * 65536 + leading 2 rest
+      unfolding rest
+      from-third = omega (arith, from-second, digit-goes 2 (drop 1 xs) (next-digit xs 0 second) k)
+
+      its : Digit rest 0 y
+      unfolding rest
+      its = next-digit (drop 1 xs) 0 (next-digit xs 1 third)
+
+      pub third-stops : y ≡ 255 → w * 16777216 + x * 65536 + 65280 ≡ leading 4 xs
+      third-stops e = omega (arith, from-third, digit-stops 1 rest its e)
+
+      pub fourth-ends : (y ≡ 255 → ⊥) → {z : ℕ} → Digit xs 3 z → w * 16777216 + x * 65536 + y * 256 + z ≡ leading 4 xs
+      unfolding rest
+      fourth-ends l {z} fourth =
+          let last : Digit (drop 1 rest) 0 z = next-digit rest 0 (next-digit (drop 1 xs) 1 (next-digit xs 2 fourth)) in
+          omega (arith, from-third, digit-goes 1 rest its l, lead-last (drop 1 rest) last)
 
 -- ---- an item's hint
 
-pub part-below : (d : List ℕ) {p : ℕ} → p ≡ leading 3 d → p < 16777216
-part-below d e = rw e (lead-below 3 d)
-
-module _ (kind : Kind) (bytes list : List ℕ) (k : ℕ) {x : ℕ} (h : x ≡ itemHash kind bytes list k) where
-  pub hash-stops : 255 ≤ x → 4278190080 ≡ itemHint kind bytes list k
-  unfolding itemHint itemKey
-  hash-stops l = sym (lead-large 3 (itemHash kind bytes list k) (itemDigest kind bytes list k) (omega arith))
-
-  pub hash-goes : x < 255 → {d : List ℕ} {p : ℕ} → d ≡ itemDigest kind bytes list k → p ≡ leading 3 d → x * 16777216 + p ≡ itemHint kind bytes list k
-  unfolding itemHint itemKey
-  hash-goes l {d} {p} e q =
-      rw (h, q, e) (sym (lead-small 3 (itemHash kind bytes list k) (itemDigest kind bytes list k) (omega arith)))
+pub item-hint : (kind : Kind) (bytes list : List ℕ) (k : ℕ) (a : Head) (x : List ℕ) {r : ℕ} → a ≡ itemHead kind bytes list k → x ≡ itemDigest kind bytes list k
+    → r ≡ leading 4 (keyOf (headKey a x)) → r ≡ itemHint kind bytes list k
+unfolding itemHint itemKey itemHead
+item-hint kind bytes list k a x p q e = e ∙ rw (p, q)
 
 -- ---- two items by their hints
 

@@ -1,6 +1,6 @@
 -- One number for a key, which decides most comparisons of two keys without a look at them: the lesser number has the lesser key.
 --   leading       a list's first n numbers as the digits of one number to the base 256
---   Digit         a byte of a list, or 0 where the list has ended
+--   Digit         a number of a list as a digit
 --   itemHint      an item's hint
 --   Hinted        an item that can be read, with its hint at its place among the hints
 --   Hints         the hints of n items
@@ -20,11 +20,13 @@ leading zero xs = 0
 leading (suc n) [] = 0
 leading (suc n) (x ∷ xs) = cond (ltb x 255) (x * 256 ^ n + leading n xs) (255 * 256 ^ n)
 
+-- a number of a list as a digit: itself below 255, and 0 where the list has ended
 pub record Digit (xs : List ℕ) (k r : ℕ) : Type 0 where
-  pub told : r ≡ getD xs k 0
+  pub goes : getD xs k 0 < 255 → r ≡ getD xs k 0
+  pub stops : 255 ≤ getD xs k 0 → r ≡ 255
   pub most : r ≤ 255
 
--- of a key's hash id and its digest's first three bytes
+-- of the first four numbers of its key
 unfoldable pub itemHint : Kind → List ℕ → List ℕ → ℕ → ℕ
 itemHint kind bytes list k = leading 4 (itemKey kind bytes list k)
 

@@ -2,10 +2,13 @@
 // apart, an item here and its digest there, and a sort that looks at them each time waits for memory.
 ghost use mathlib.Core.Path.{_≡_};
 ghost use lib.ListN.{length};
+ghost use Rattle.segment.specs.Keys.{keyOf};
+ghost use Rattle.key.specs.Heads.{headKey};
 ghost use Rattle.key.specs.Items.{Item, Items};
 ghost use Rattle.key.specs.ItemOrder.{itemLeq};
 ghost use Rattle.key_hint.specs.Leading.{leading, itemHint, Digit, Hinted, Hints};
 use key::Kind;
+use key::head::Head;
 
 // What a digit counts at the first place of a hint, at the second and at the third.
 const FIRST: u32 = 256 * 256 * 256;
@@ -14,41 +17,44 @@ const SECOND: u32 = 256 * 256;
 
 const THIRD: u32 = 256;
 
-// A byte of a digest, or 0 where the digest has ended.
-fn digit(digest: &[u8], k: usize) -> u32
-    ensures { λ r. ⌜ Digit (now (digest .entry)) k r ⌝ }
+// Number i of a key as a digit: from 255 on it is 255.
+fn digit(head: Head, digest: &[u8], i: usize) -> u32
+    ensures { λ r. ⌜ Digit (keyOf (headKey head (now (digest .entry)))) i r ⌝ }
 {
-    if k < digest.len() {
-        return digest[k] as u32;
+    let n = key::head::number_of(head, digest, i);
+    if 255 <= n {
+        return 255;
     }
-    0
+    n as u32
 }
 
-// The digest's part of a hint: three digits, and none after 255.
-fn digest_part(digest: &[u8]) -> u32
-    ensures { λ r. ⌜ r ≡ leading 3 (now (digest .entry)) ⌝ }
+// A key's first four digits, and none after 255.
+fn hint_of(head: Head, digest: &[u8]) -> u32
+    ensures { λ r. ⌜ r ≡ leading 4 (keyOf (headKey head (now (digest .entry)))) ⌝ }
 {
-    let x = digit(digest, 0);
+    let w = digit(head, digest, 0);
+    if w == 255 {
+        return 255 * FIRST;
+    }
+    let x = digit(head, digest, 1);
     if x == 255 {
-        return 255 * SECOND;
+        return w * FIRST + 255 * SECOND;
     }
-    let y = digit(digest, 1);
+    let y = digit(head, digest, 2);
     if y == 255 {
-        return x * SECOND + 255 * THIRD;
+        return w * FIRST + x * SECOND + 255 * THIRD;
     }
-    x * SECOND + y * THIRD + digit(digest, 2)
+    w * FIRST + x * SECOND + y * THIRD + digit(head, digest, 3)
 }
 
 pub fn hint(kind: Kind, bytes: &[u8], list: &[u64], k: usize) -> u32
     requires { ⌜ Item kind (now bytes) (now list) k ⌝ }
     ensures { λ r. ⌜ r ≡ itemHint kind (now (bytes .entry)) (now (list .entry)) k ⌝ }
 {
-    let hash = key::hash_of(kind, bytes, list, k);
-    if 255 <= hash {
-        return 255 * FIRST;
-    }
-    let part = digest_part(key::digest(kind, bytes, list, k));
-    hash as u32 * FIRST + part
+    hint_of(
+        key::head_of(kind, bytes, list, k),
+        key::digest(kind, bytes, list, k),
+    )
 }
 
 // The hints of as many items as there is room for.

@@ -56,8 +56,8 @@ countLine word n = cell word ++ last (decimal n)
 unfoldable pub recordLine : ℕ → Row → List ℕ
 recordLine k r =
     cell (decimal k)
-    ++ cell (decimal (r .hashId))
-    ++ cell (hex (r .digest))
+    ++ cell (decimal (r .key .hashId))
+    ++ cell (hex (r .key .digest))
     ++ cell (stateWord (r .state))
     ++ cell (visibilityWord (r .visibility))
     ++ cell (sourceWord (r .source))

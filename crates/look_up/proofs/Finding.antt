@@ -10,7 +10,7 @@ use native.Mathlib.Numerals.{add-one}
 use native.Mathlib.Omega.{arith}
 use lib.ListN.{length}
 use Rattle.answer.specs.declared.Refusal.{Refusal}
-use Rattle.answer.specs.declared.Rule.the-variants.{Key, Table as TableWrong}
+use Rattle.answer.specs.declared.Rule.the-variants.{Key as KeyWrong, Table as TableWrong}
 use Rattle.answer.specs.declared.Verdict.the-variants.{Accepted, Refused as Stopped}
 use Rattle.answer.specs.declared.Source.{Source}
 use Rattle.answer.specs.declared.Source.the-variants.{None, Domain}
@@ -22,7 +22,7 @@ use Rattle.segment.specs.declared.header.Header.{Header}
 use Rattle.segment.specs.declared.record.Record.{Record}
 use Rattle.segment.specs.Format.{v3, headerOf, recordOf, recordNo, recordCount, recordsOffset}
 use Rattle.table.specs.Table.{goodTable, tableVerdict, allows}
-use Rattle.segment.specs.Keys.{keyOf}
+use Rattle.segment.specs.Keys.{Key, keyOf, allowsKey}
 use Rattle.lists.specs.Lists.{eqList}
 use Rattle.segment.specs.Check.{isGone, digestIn, keyNo, segmentVerdict}
 use Rattle.segment.specs.Meaning.{sourceOf}
@@ -106,10 +106,10 @@ told-cond : (b : Bool) {f g : Found} → Told f → Told g → Told (cond b f g)
 told-cond true t u = t
 told-cond false t u = u
 
-told-no : (s : List ℕ) (h : Header) (key : List ℕ) (k : ℕ) → Told (foundNo v3 s h key k)
+told-no : (s : List ℕ) (h : Header) (key : Key) (k : ℕ) → Told (foundNo v3 s h key k)
 unfolding foundNo recordFound
 told-no s h key k =
-    told-cond (eqList (keyNo v3 s h k) key)
+    told-cond (eqList (keyNo v3 s h k) (keyOf key))
     (told-cond (isGone (recordNo v3 s h k)) (gone _ _ _) (present _ _ _ _ _ _))
     absent
 
@@ -123,29 +123,29 @@ told-refused absent e = let z : _≡_ {A = ℕ} 0 1 = cc in omega arith
 told-refused (gone v d o) e = let z : _≡_ {A = ℕ} 0 1 = cc in omega arith
 told-refused (present v d o t a n) e = let z : _≡_ {A = ℕ} 0 1 = cc in omega arith
 
-pub never-refused : (s : List ℕ) (h : Header) (key : List ℕ) (r : Refusal) → foundIn v3 s h key ≡ Refused r → ⊥
+pub never-refused : (s : List ℕ) (h : Header) (key : Key) (r : Refusal) → foundIn v3 s h key ≡ Refused r → ⊥
 unfolding foundIn
 never-refused s h key r = told-refused (told-over (recordCount h) (foundNo v3 s h key) (told-no s h key))
 
 -- ---- a segment's records
 
 -- a search has come to k, and no record below it has the key
-pub record Searching (s : List ℕ) (key : List ℕ) (k : ℕ) : Type 0 where
+pub record Searching (s : List ℕ) (key : Key) (k : ℕ) : Type 0 where
   pub none : foundOver k (foundNo v3 s (headerOf s) key) ≡ Absent
 
-pub search-start : (s key : List ℕ) → Searching s key 0
+pub search-start : (s : List ℕ) (key : Key) → Searching s key 0
 search-start s key = record { none = found-none (foundNo v3 s (headerOf s) key) }
 
-pub search-done : (s key : List ℕ) (k : ℕ) (h : Header) → h ≡ headerOf s → Searching s key k → k ≤ recordCount h → recordCount h ≤ k → Absent ≡ foundIn v3 s (headerOf s) key
+pub search-done : (s : List ℕ) (key : Key) (k : ℕ) (h : Header) → h ≡ headerOf s → Searching s key k → k ≤ recordCount h → recordCount h ≤ k → Absent ≡ foundIn v3 s (headerOf s) key
 unfolding foundIn
 search-done s key k h e v a b =
     let n : recordCount (headerOf s) ≡ k = ap recordCount (sym e) ∙ omega arith in
     sym (ap (λ (m : ℕ). foundOver m (foundNo v3 s (headerOf s) key)) n ∙ v .none)
 
-module _ (pairs s : List ℕ) (h : Header) (hash : ℕ) (digest : List ℕ) (k : ℕ) (e : h ≡ headerOf s) (b : Bool)
-    (t : b ≡ eqList (itemKey (Records (recordsOffset h)) s pairs k) (keyOf hash digest)) where
+module _ (pairs s : List ℕ) (h : Header) (key : Key) (k : ℕ) (e : h ≡ headerOf s) (b : Bool)
+    (t : b ≡ eqList (itemKey (Records (recordsOffset h)) s pairs k) (keyOf key)) where
   -- the item's key is the record's
-  tested : b ≡ eqList (keyNo v3 s (headerOf s) k) (keyOf hash digest)
+  tested : b ≡ eqList (keyNo v3 s (headerOf s) k) (keyOf key)
   unfolding itemKey itemHash itemDigest itemSpan recordSpan keyNo digestIn recordNo
   tested = rw e at t
 
@@ -153,42 +153,42 @@ module _ (pairs s : List ℕ) (h : Header) (hash : ℕ) (digest : List ℕ) (k :
   unfolding recordNo
   at-record r q = q ∙ ap (λ (x : Header). recordOf v3 s (recordsOffset x + 48 * k)) e
 
-  pub search-more : Searching s (keyOf hash digest) k → b ≡ false → Searching s (keyOf hash digest) (k + 1)
+  pub search-more : Searching s key k → b ≡ false → Searching s key (k + 1)
   unfolding foundNo
-  search-more v f = record { none = found-more k (foundNo v3 s (headerOf s) (keyOf hash digest)) (v .none) (rw (sym tested ∙ f)) }
+  search-more v f = record { none = found-more k (foundNo v3 s (headerOf s) key) (v .none) (rw (sym tested ∙ f)) }
 
-  pub search-hit : (r : Record) (o : Found) → Searching s (keyOf hash digest) k → b ≡ true → k < recordCount h
-      → r ≡ recordOf v3 s (recordsOffset h + 48 * k) → o ≡ recordFound r → o ≡ foundIn v3 s (headerOf s) (keyOf hash digest)
+  pub search-hit : (r : Record) (o : Found) → Searching s key k → b ≡ true → k < recordCount h
+      → r ≡ recordOf v3 s (recordsOffset h + 48 * k) → o ≡ recordFound r → o ≡ foundIn v3 s (headerOf s) key
   unfolding foundIn foundNo
   search-hit r o v f l q p =
       let n : k < recordCount (headerOf s) = rw e at l in
-      let here : foundNo v3 s (headerOf s) (keyOf hash digest) k ≡ recordFound (recordNo v3 s (headerOf s) k) = rw (sym tested ∙ f) in
+      let here : foundNo v3 s (headerOf s) key k ≡ recordFound (recordNo v3 s (headerOf s) k) = rw (sym tested ∙ f) in
       let same : r ≡ recordNo v3 s (headerOf s) k = at-record r q in
       p ∙ ap recordFound same ∙ sym here
-      ∙ sym (found-first (recordCount (headerOf s)) k (foundNo v3 s (headerOf s) (keyOf hash digest)) n (v .none) (λ z. never-absent (recordNo v3 s (headerOf s) k) (sym here ∙ z)))
+      ∙ sym (found-first (recordCount (headerOf s)) k (foundNo v3 s (headerOf s) key) n (v .none) (λ z. never-absent (recordNo v3 s (headerOf s) k) (sym here ∙ z)))
 
 -- ---- the whole
 
-module _ (pairs s : List ℕ) (hash : ℕ) (digest : List ℕ) where
-  pub unknown-key : (b : Bool) → b ≡ allows pairs hash (length digest) → not b ≡ true → Refused (refusal Key 0) ≡ foundUnder pairs s hash digest
+module _ (pairs s : List ℕ) (key : Key) where
+  pub unknown-key : (b : Bool) → b ≡ allowsKey pairs key → not b ≡ true → Refused (refusal KeyWrong 0) ≡ foundUnder pairs s key
   unfolding foundUnder keyVerdict
   unknown-key b e f = rw (was-false e f)
 
-  module _ (b : Bool) (e : b ≡ allows pairs hash (length digest)) (f : not b ≡ false) where
-    pub segment-stop : (x : Refusal) → segmentVerdict v3 pairs s ≡ Stopped x → Refused x ≡ foundUnder pairs s hash digest
+  module _ (b : Bool) (e : b ≡ allowsKey pairs key) (f : not b ≡ false) where
+    pub segment-stop : (x : Refusal) → segmentVerdict v3 pairs s ≡ Stopped x → Refused x ≡ foundUnder pairs s key
     unfolding foundUnder keyVerdict
     segment-stop x g = rw (was-true e f, g)
 
-    pub segment-pass : {o : Found} → segmentVerdict v3 pairs s ≡ Accepted → o ≡ foundIn v3 s (headerOf s) (keyOf hash digest)
-        → o ≡ foundUnder pairs s hash digest
+    pub segment-pass : {o : Found} → segmentVerdict v3 pairs s ≡ Accepted → o ≡ foundIn v3 s (headerOf s) key
+        → o ≡ foundUnder pairs s key
     unfolding foundUnder keyVerdict
     segment-pass g h = rw (was-true e f, g) h
 
-  pub table-bad : goodTable pairs ≡ false → foundAnswer (Refused (refusal TableWrong 0)) ≡ lookUpOf pairs s hash digest
+  pub table-bad : goodTable pairs ≡ false → foundAnswer (Refused (refusal TableWrong 0)) ≡ lookUpOf pairs s key
   unfolding lookUpOf lookedUp tableVerdict
   table-bad e = rw e
 
-  pub table-good : (part : List ℕ) {o : Found} → goodTable pairs ≡ true → part ≡ pairs → o ≡ foundUnder part s hash digest
-      → foundAnswer o ≡ lookUpOf pairs s hash digest
+  pub table-good : (part : List ℕ) {o : Found} → goodTable pairs ≡ true → part ≡ pairs → o ≡ foundUnder part s key
+      → foundAnswer o ≡ lookUpOf pairs s key
   unfolding lookUpOf lookedUp tableVerdict
-  table-good part e p f = rw e (ap foundAnswer (f ∙ ap (λ (q : List ℕ). foundUnder q s hash digest) p))
+  table-good part e p f = rw e (ap foundAnswer (f ∙ ap (λ (q : List ℕ). foundUnder q s key) p))

@@ -4,7 +4,7 @@ ghost use mathlib.Core.Path.{_≡_};
 ghost use Rattle.answer.specs.declared.Verdict.the-variants.{Accepted};
 ghost use Rattle.answer.specs.Answers.{foundAnswer};
 ghost use Rattle.segment.specs.Format.{v3, headerOf};
-ghost use Rattle.segment.specs.Keys.{keyOf};
+ghost use Rattle.segment.specs.Keys.{keyFrom};
 ghost use Rattle.segment.specs.Check.{segmentVerdict};
 ghost use Rattle.segment.specs.Meaning.{sourceOf};
 ghost use Rattle.segment.specs.LookUp.{recordFound, foundIn, foundUnder, lookUpOf};
@@ -14,6 +14,7 @@ use answer::Rule;
 use answer::Source;
 use answer::Verdict;
 use key::Kind;
+use key::head::Head;
 use segment::header::Header;
 use segment::record::Record;
 
@@ -51,14 +52,15 @@ fn found(r: Record) -> Found
 // The record of an accepted segment that has the key, if there is one.
 fn find(pairs: &[u64], seg: &[u8], hash: u64, digest: &[u8]) -> Found
     requires { ⌜ segmentVerdict v3 (now pairs) (now seg) ≡ Accepted ⌝ }
-    ensures { λ r. ⌜ r ≡ foundIn v3 (now (seg .entry)) (headerOf (now (seg .entry))) (keyOf hash (now (digest .entry))) ⌝ }
+    ensures { λ r. ⌜ r ≡ foundIn v3 (now (seg .entry)) (headerOf (now (seg .entry))) (keyFrom hash (now (digest .entry))) ⌝ }
 {
     let h = Header::of(seg);
     let first = h.records_offset.0 as usize;
     let count = h.record_count as usize;
+    let head = Head { hash_id: hash };
     let mut k = 0;
     while k < count {
-        if key_equal::key_is(Kind::Records(first), seg, pairs, k, hash, digest) {
+        if key_equal::key_is(Kind::Records(first), seg, pairs, k, head, digest) {
             return found(Record::at(seg, first + Record::SIZE * k));
         }
         k += 1;
@@ -68,7 +70,7 @@ fn find(pairs: &[u64], seg: &[u8], hash: u64, digest: &[u8]) -> Found
 
 // Everything but the table.
 fn look_up_under(pairs: &[u64], seg: &[u8], hash: u64, digest: &[u8]) -> Found
-    ensures { λ r. ⌜ r ≡ foundUnder (now (pairs .entry)) (now (seg .entry)) hash (now (digest .entry)) ⌝ }
+    ensures { λ r. ⌜ r ≡ foundUnder (now (pairs .entry)) (now (seg .entry)) (keyFrom hash (now (digest .entry))) ⌝ }
 {
     if !table::allows(pairs, hash, digest.len() as u64) {
         return Found::Refused(Refusal(Rule::Key, 0));
@@ -83,7 +85,7 @@ fn look_up_under(pairs: &[u64], seg: &[u8], hash: u64, digest: &[u8]) -> Found
 }
 
 pub fn look_up(pairs: &[u64], seg: &[u8], hash: u64, digest: &[u8]) -> Found
-    ensures { λ r. ⌜ foundAnswer r ≡ lookUpOf (now (pairs .entry)) (now (seg .entry)) hash (now (digest .entry)) ⌝ }
+    ensures { λ r. ⌜ foundAnswer r ≡ lookUpOf (now (pairs .entry)) (now (seg .entry)) (keyFrom hash (now (digest .entry))) ⌝ }
 {
     if !table::good(pairs) {
         return Found::Refused(Refusal(Rule::Table, 0));

@@ -46,7 +46,7 @@ hash-is (Records at) bytes list k = refl
 hash-is Entries bytes list k = refl
 
 module _ (kind : Kind) (bytes list extents : List ℕ) (k : ℕ) where
-  pub row-digest : itemDigest kind bytes list k ≡ itemRow kind bytes list extents k .digest
+  pub row-digest : itemDigest kind bytes list k ≡ itemRow kind bytes list extents k .key .digest
   unfolding itemDigest itemRow rowOfEntry
   row-digest = rw (span-starts kind bytes list k, span-size kind bytes list k)
 
@@ -54,7 +54,7 @@ module _ (kind : Kind) (bytes list extents : List ℕ) (k : ℕ) where
   unfolding itemKey itemRow rowOfEntry
   row-key = rw (hash-is kind bytes list k) (ap (λ (d : List ℕ). itemEntry kind bytes list k .«hash_id» ∷ d) row-digest)
 
-  pub row-digest-length : Item kind bytes list k → length (itemRow kind bytes list extents k .digest) ≡ itemEntry kind bytes list k .«digest_length»
+  pub row-digest-length : Item kind bytes list k → length (itemRow kind bytes list extents k .key .digest) ≡ itemEntry kind bytes list k .«digest_length»
   unfolding itemRow rowOfEntry
   row-digest-length i =
       let e = itemEntry kind bytes list k in
@@ -138,7 +138,7 @@ module _ (kind : Kind) (bytes list extents : List ℕ) (k : ℕ) (l : Line kind 
   unfolding recordOfEntry recordFor itemRow rowOfEntry
   row-record domain digestAt extentsAt =
       let sum : sumLengths (rowExtents row) ≡ itemTotal kind bytes list extents k = ap sumLengths row-extents ∙ sym (l .total) in
-      let size : length (row .digest) ≡ e .«digest_length» = row-digest-length kind bytes list extents k (l .counted .item) in
+      let size : length (row .key .digest) ≡ e .«digest_length» = row-digest-length kind bytes list extents k (l .counted .item) in
       λ j. record {
         «hash_id» = e .«hash_id»;
         «digest_length» = size j;
@@ -175,7 +175,7 @@ module _ (kind : Kind) (bytes list extents : List ℕ) where
   unfolding Each digestBytes measured
   digests-come [] l = refl
   digests-come (k ∷ ks) l =
-      length-append (itemRow kind bytes list extents k .digest) (digestBytes (itemRows kind bytes list extents ks))
+      length-append (itemRow kind bytes list extents k .key .digest) (digestBytes (itemRows kind bytes list extents ks))
       ∙ omega (arith, row-digest-length kind bytes list extents k (l .0 .counted .item), digests-come ks (l .1))
 
   pub extents-come : (numbers : List ℕ) → Lines kind bytes list extents numbers

@@ -17,6 +17,7 @@ use Rattle.segment.specs.declared.record.Record.{Record}
 use Rattle.segment.specs.declared.extent.Extent.{Extent}
 use Rattle.segment.specs.declared.entry.Entry.{Entry}
 use Rattle.segment.specs.Format.{v3, inFile, recordOf, extentOf, extentsAt}
+use Rattle.segment.specs.Keys.{keyFrom}
 use Rattle.segment.specs.Check.{sumLengths}
 use Rattle.segment.specs.Meaning.{gone, live, Row, sourceOf}
 use Rattle.segment.specs.Write.{entryNo, listedExtent, extentsFrom}
@@ -70,8 +71,7 @@ extentsOfEntry kind bytes extents e = itemExtents kind bytes extents (e .«first
 
 unfoldable pub rowOfEntry : Kind → List ℕ → List ℕ → Entry → Row
 rowOfEntry kind bytes extents e = record {
-  hashId = e .«hash_id»;
-  digest = take (e .«digest_length») (drop (e .«digest_start») bytes);
+  key = keyFrom (e .«hash_id») (take (e .«digest_length») (drop (e .«digest_start») bytes));
   visibility = e .visibility;
   source = sourceOf (e .imported) (e .source);
   state = cond (eqb (e .gone) 1) gone (live (extentsOfEntry kind bytes extents e));

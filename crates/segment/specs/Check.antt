@@ -52,7 +52,7 @@ use Rattle.segment.specs.Format.{
   extentsIn,
 }
 use Rattle.table.specs.Table.{tableVerdict, allows}
-use Rattle.segment.specs.Keys.{keyOf, freshKey}
+use Rattle.segment.specs.Keys.{Key, keyOf, keyFrom, freshKey}
 
 -- 1: shorter than 136 or longer than the limit
 unfoldable pub sizeVerdict : ℕ → Verdict
@@ -178,12 +178,15 @@ largestBelow (suc n) f = max (largestBelow n f) (f n)
 unfoldable pub visibilityVerdict : Shape → List ℕ → Header → Verdict
 visibilityVerdict sh s h = must (eqb (h .visibility) (largestBelow (recordCount h) (visibilityNo sh s h))) (refusal Visibility 0)
 
--- the digest of a record, and the key of record k
+-- the digest of a record, its key, and the numbers of the key of record k
 unfoldable pub digestIn : List ℕ → Record → List ℕ
 digestIn s r = take (r .«digest_length») (drop (r .«digest_offset» .0) s)
 
+abbrev pub recordKey : List ℕ → Record → Key
+recordKey s r = keyFrom (r .«hash_id») (digestIn s r)
+
 unfoldable pub keyNo : Shape → List ℕ → Header → ℕ → List ℕ
-keyNo sh s h k = keyOf (recordNo sh s h k .«hash_id») (digestIn s (recordNo sh s h k))
+keyNo sh s h k = keyOf (recordKey s (recordNo sh s h k))
 
 -- everything after 14 and 1, of a segment whose header is h
 unfoldable pub segmentRules : Shape → List ℕ → List ℕ → Header → Verdict

@@ -8,8 +8,8 @@
 use Prim.Native.Nat.{ℕ, zero, suc, _*_}
 use mathlib.Core.Bool.{cond}
 use mathlib.Core.List.{List, []}
-use lib.ListN.{length, take, drop}
-use Rattle.answer.specs.declared.Rule.the-variants.{Key}
+use lib.ListN.{take, drop}
+use Rattle.answer.specs.declared.Rule.the-variants.{Key as KeyWrong}
 use Rattle.answer.specs.declared.Verdict.{Verdict}
 use Rattle.answer.specs.declared.Found.{Found}
 use Rattle.answer.specs.declared.Found.the-variants.{Absent, Gone, Present, Refused}
@@ -18,15 +18,15 @@ use Rattle.answer.specs.Answers.{Answer, refusal, foundAnswer}
 use Rattle.segment.specs.declared.header.Header.{Header}
 use Rattle.segment.specs.declared.record.Record.{Record}
 use Rattle.segment.specs.Format.{Shape, v3, extentSize, headerOf, recordCount, recordNo}
-use Rattle.table.specs.Table.{tableVerdict, allows}
-use Rattle.segment.specs.Keys.{keyOf}
+use Rattle.table.specs.Table.{tableVerdict}
+use Rattle.segment.specs.Keys.{Key, keyOf, allowsKey}
 use Rattle.lists.specs.Lists.{eqList}
 use Rattle.segment.specs.Check.{isGone, keyNo, segmentVerdict}
 use Rattle.segment.specs.Meaning.{sourceOf}
 
 -- 17: hash id unknown or length not the table's
-unfoldable pub keyVerdict : List ℕ → ℕ → List ℕ → Verdict
-keyVerdict pairs hash digest = must (allows pairs hash (length digest)) (refusal Key 0)
+unfoldable pub keyVerdict : List ℕ → Key → Verdict
+keyVerdict pairs key = must (allowsKey pairs key) (refusal KeyWrong 0)
 
 -- what is said of a record
 unfoldable pub recordFound : Record → Found
@@ -47,22 +47,21 @@ foundOver zero f = Absent
 foundOver (suc n) f = foundOver n f orElse f n
 
 -- record k, if it has the key
-unfoldable pub foundNo : Shape → List ℕ → Header → List ℕ → ℕ → Found
-foundNo sh s h key k = cond (eqList (keyNo sh s h k) key) (recordFound (recordNo sh s h k)) Absent
+unfoldable pub foundNo : Shape → List ℕ → Header → Key → ℕ → Found
+foundNo sh s h key k = cond (eqList (keyNo sh s h k) (keyOf key)) (recordFound (recordNo sh s h k)) Absent
 
-unfoldable pub foundIn : Shape → List ℕ → Header → List ℕ → Found
+unfoldable pub foundIn : Shape → List ℕ → Header → Key → Found
 foundIn sh s h key = foundOver (recordCount h) (foundNo sh s h key)
 
 -- under a good table: 17, then as check
-unfoldable pub foundUnder : List ℕ → List ℕ → ℕ → List ℕ → Found
-foundUnder pairs s hash digest =
-    after Refused (keyVerdict pairs hash digest then segmentVerdict v3 pairs s) (foundIn v3 s (headerOf s) (keyOf hash digest))
+unfoldable pub foundUnder : List ℕ → List ℕ → Key → Found
+foundUnder pairs s key = after Refused (keyVerdict pairs key then segmentVerdict v3 pairs s) (foundIn v3 s (headerOf s) key)
 
-unfoldable pub lookedUp : List ℕ → List ℕ → ℕ → List ℕ → Found
-lookedUp pairs s hash digest = after Refused (tableVerdict pairs) (foundUnder pairs s hash digest)
+unfoldable pub lookedUp : List ℕ → List ℕ → Key → Found
+lookedUp pairs s key = after Refused (tableVerdict pairs) (foundUnder pairs s key)
 
-unfoldable pub lookUpOf : List ℕ → List ℕ → ℕ → List ℕ → Answer
-lookUpOf pairs s hash digest = foundAnswer (lookedUp pairs s hash digest)
+unfoldable pub lookUpOf : List ℕ → List ℕ → Key → Answer
+lookUpOf pairs s key = foundAnswer (lookedUp pairs s key)
 
 unfoldable pub extentsPart : Found → List ℕ → List ℕ
 extentsPart Absent s = []

@@ -19,23 +19,22 @@ use Rattle.segment.specs.declared.record.Record.{Record}
 use Rattle.segment.specs.declared.extent.Extent.{Extent}
 use Rattle.segment.specs.Format.{Shape, headerSize, footerSize, headerOf, footerOf, recordCount, bloomSize, recordNo, extentsIn}
 use Rattle.lists.specs.Lists.{countFrom}
-use Rattle.segment.specs.Keys.{keyOf}
-use Rattle.segment.specs.Check.{isGone, digestIn}
+use Rattle.segment.specs.Keys.{Key, keyOf}
+use Rattle.segment.specs.Check.{isGone, recordKey}
 
 pub data State : Type 0 where
   gone : State
   live : List Extent → State
 
 pub record Row : Type 0 where
-  pub hashId : ℕ
-  pub digest : List ℕ
+  pub key : Key
   pub visibility : ℕ
   pub source : Source
   pub state : State
 
--- what a record has as its key
+-- the numbers of its key
 abbrev pub rowKey : Row → List ℕ
-rowKey r = keyOf (r .hashId) (r .digest)
+rowKey r = keyOf (r .key)
 
 abbrev pub extentsOfState : State → List Extent
 extentsOfState gone = []
@@ -55,8 +54,7 @@ sourceOf imported domain = cond (eqb imported 0) None (Domain domain)
 
 unfoldable pub rowOf : List ℕ → Record → Row
 rowOf s r = record {
-  hashId = r .«hash_id»;
-  digest = digestIn s r;
+  key = recordKey s r;
   visibility = r .visibility;
   source = sourceOf (r .imported) (r .source);
   state = cond (isGone r) gone (live (extentsIn s r));

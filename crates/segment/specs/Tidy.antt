@@ -102,8 +102,8 @@ extentsPlace (live es) at = at
 -- a row whose digest lies at one place and whose extents at another
 unfoldable pub recordFor : ℕ → Row → ℕ → ℕ → Record
 recordFor domain r digestAt extentsAt = record {
-  «hash_id» = r .hashId;
-  «digest_length» = length (r .digest);
+  «hash_id» = r .key .hashId;
+  «digest_length» = length (r .key .digest);
   reserved = 0;
   «digest_offset» = inFile digestAt;
   «extents_offset» = inFile (extentsPlace (r .state) extentsAt);
@@ -123,11 +123,11 @@ unfoldable pub recordsBytes : Shape → ℕ → List Row → ℕ → ℕ → Lis
 recordsBytes sh domain [] digestAt extentsAt = []
 recordsBytes sh domain (r ∷ rs) digestAt extentsAt =
     packed (recordFields sh (recordFor domain r digestAt extentsAt))
-    ++ recordsBytes sh domain rs (digestAt + length (r .digest)) (extentsAt + extentSize * length (rowExtents r))
+    ++ recordsBytes sh domain rs (digestAt + length (r .key .digest)) (extentsAt + extentSize * length (rowExtents r))
 
 unfoldable pub digestBytes : List Row → List ℕ
 digestBytes [] = []
-digestBytes (r ∷ rs) = r .digest ++ digestBytes rs
+digestBytes (r ∷ rs) = r .key .digest ++ digestBytes rs
 
 unfoldable pub extentListBytes : List Extent → List ℕ
 extentListBytes [] = []

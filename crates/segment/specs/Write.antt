@@ -22,7 +22,7 @@ use Rattle.segment.specs.declared.entry.Entry.{Entry}
 use Rattle.segment.specs.declared.extent.Extent.{Extent}
 use Rattle.segment.specs.Format.{Shape, v3, recordLimit, inBlock}
 use Rattle.table.specs.Table.{tableVerdict, allows}
-use Rattle.segment.specs.Keys.{keyOf, freshKey}
+use Rattle.segment.specs.Keys.{Key, keyOf, keyFrom, freshKey}
 use Rattle.segment.specs.Check.{extentFits, sumLengths}
 use Rattle.segment.specs.Meaning.{gone, live, Row, Meaning, sourceOf}
 use Rattle.lists.specs.Lists.{countFrom}
@@ -126,17 +126,19 @@ entryVerdict sh pairs entries digests extents k = entryRules sh pairs digests ex
 unfoldable pub entryDigestBytes : List ℕ → Entry → List ℕ
 entryDigestBytes digests e = take (e .«digest_length») (drop (e .«digest_start») digests)
 
--- the key of entry k, of a list of entries over a run of digest bytes
+-- the key of an entry, over a run of digest bytes; and the numbers of the key of entry k
+abbrev pub keyOfEntry : List ℕ → Entry → Key
+keyOfEntry digests e = keyFrom (e .«hash_id») (entryDigestBytes digests e)
+
 unfoldable pub entryKey : List ℕ → List ℕ → ℕ → List ℕ
-entryKey entries digests k = keyOf (entryNo entries k .«hash_id») (entryDigestBytes digests (entryNo entries k))
+entryKey entries digests k = keyOf (keyOfEntry digests (entryNo entries k))
 
 -- the record that entry k asks for
 unfoldable pub entryRow : List ℕ → List ℕ → List ℕ → ℕ → Row
 entryRow entries digests extents k =
     let e = entryNo entries k in
     record {
-      hashId = e .«hash_id»;
-      digest = entryDigestBytes digests e;
+      key = keyOfEntry digests e;
       visibility = e .visibility;
       source = sourceOf (e .imported) (e .source);
       state = cond (entryGone e) gone (live (entryExtents extents e));

@@ -27,7 +27,7 @@ use Rattle.answer.specs.declared.Rule.the-variants.{
   Table,
   List as ListEnd,
   Large,
-  Key,
+  Key as KeyWrong,
 }
 use Rattle.answer.specs.declared.Verdict.{Verdict}
 use Rattle.answer.specs.declared.Verdict.the-variants.{Accepted, Refused}
@@ -36,6 +36,7 @@ use Rattle.answer.specs.declared.Found.the-variants.{Absent, Gone, Present, Ref
 use Rattle.answer.specs.declared.Written.{Written}
 use Rattle.answer.specs.declared.Written.the-variants.{Done, Refused as NotWritten}
 use Rattle.answer.specs.Answers.{ruleNumber, refusal, refused, checkAnswer, foundAnswer}
+use Rattle.segment.specs.Keys.{Key}
 use Rattle.segment.specs.declared.entry.Entry.{Entry}
 use Rattle.segment.specs.Check.{checked, checkOf}
 use Rattle.segment.specs.LookUp.{lookedUp, lookUpOf}
@@ -100,7 +101,7 @@ in-table Room = omega arith
 in-table Table = omega arith
 in-table ListEnd = omega arith
 in-table Large = omega arith
-in-table Key = omega arith
+in-table KeyWrong = omega arith
 
 module _ {n : ℕ} (q : Rule) where
   nowhere : ofRecord (ruleNumber q) ≡ false → PlacedAmong n (refused (refusal q 0))
@@ -130,10 +131,10 @@ size-placed : {m room n : ℕ} (r : Refusal) → SizeGiven m room r → PlacedAm
 size-placed r (by-limit l) = nowhere Large refl
 size-placed r (by-room l h) = nowhere Room refl
 
-look-placed : (pairs s : List ℕ) (hash : ℕ) (digest : List ℕ) (r : Refusal) → LookGiven pairs s hash digest r → PlacedAmong (recordCount (headerOf s)) (refused r)
-look-placed pairs s hash digest r (look-table g) = nowhere Table refl
-look-placed pairs s hash digest r (by-key g a) = nowhere Key refl
-look-placed pairs s hash digest r (by-segment g a n) = given-placed pairs s r n
+look-placed : (pairs s : List ℕ) (key : Key) (r : Refusal) → LookGiven pairs s key r → PlacedAmong (recordCount (headerOf s)) (refused r)
+look-placed pairs s key r (look-table g) = nowhere Table refl
+look-placed pairs s key r (by-key g a) = nowhere KeyWrong refl
+look-placed pairs s key r (by-segment g a n) = given-placed pairs s r n
 
 entry-placed : {pairs digests extents : List ℕ} {x : Entry} {k n : ℕ} (r : Refusal) → k < n → EntryGiven pairs digests extents x k r → PlacedAmong n (refused r)
 entry-placed r l (entry-marks a) = among Record refl l
@@ -168,11 +169,11 @@ left-so n (Done m) result out b = record {
 }
 left-so n (NotWritten r) result out b = record { placed = b r refl; kept = λ f. refl }
 
-pub demand-one : (pairs s : List ℕ) (hash : ℕ) (digest : List ℕ) (q : Request) (out : List ℕ) → DemandOne pairs s hash digest q out
+pub demand-one : (pairs s : List ℕ) (key : Key) (q : Request) (out : List ℕ) → DemandOne pairs s key q out
 unfolding checkOf lookUpOf writeOf tidyOf
-demand-one pairs s hash digest q out = record {
+demand-one pairs s key q out = record {
   check = checked-so _ (checked pairs s) (λ r e. given-placed pairs s r (refused-iff pairs s r .0 e));
-  lookUp = found-so _ (lookedUp pairs s hash digest) (λ r e. look-placed pairs s hash digest r (look-refused-iff pairs s hash digest r .0 e));
+  lookUp = found-so _ (lookedUp pairs s key) (λ r e. look-placed pairs s key r (look-refused-iff pairs s key r .0 e));
   write = left-so _ (wrote pairs q (length out)) (tidyForm v3 (requested q)) out
       (λ r e. ⊎-elim (request-placed pairs q r) (λ z. size-placed r (z .1)) (write-refused-iff pairs q (length out) r .0 e));
   tidy = left-so _ (tidied pairs s (length out)) (tidyForm v3 (meaningOf v3 s)) out

@@ -16,12 +16,12 @@ use Rattle.segment.specs.declared.entry.Entry.{Entry}
 use Rattle.segment.specs.declared.extent.Extent.{Extent}
 use Rattle.segment.specs.Format.{v3}
 use Rattle.table.specs.Table.{goodTable}
-use Rattle.segment.specs.Keys.{NoKeyTwice}
+use Rattle.segment.specs.Keys.{NoKeyTwice, keyFrom}
 use Rattle.segment.specs.Check.{sumLengths}
 use Rattle.segment.specs.Meaning.{State, gone, live, Row, rowKey, extentsOfState, rowExtents, Meaning, sourceOf}
 use Rattle.lists.specs.Lists.{countFrom, Each}
 use Rattle.segment.specs.Tidy.{flagsOf, extentsPlace}
-use Rattle.segment.specs.Write.{entryCount, listedExtents, extentsFrom, entryExtents, entryGone, entryNo, allListedFit, entryDigestBytes, entryKey, entryRow, requested}
+use Rattle.segment.specs.Write.{keyOfEntry, entryCount, listedExtents, extentsFrom, entryExtents, entryGone, entryNo, allListedFit, entryDigestBytes, entryKey, entryRow, requested}
 use Rattle.segment.proofs.Sources.{imported-fits, own-source, source-read}
 use Rattle.form_laws.specs.Form.{ExtentWritable, StateWritable, Writable, KeysApart, Contents}
 use Rattle.form_laws.proofs.PartsAt.{HasAt, has-whole, has-left, has-right, has-taken}
@@ -85,8 +85,7 @@ record Standing (digests extents : List ℕ) (rs : List Row) (d x : ℕ) : Type 
 -- the row of an entry
 abbrev rowFor : List ℕ → List ℕ → Entry → Row
 rowFor digests extents e = record {
-  hashId = e .«hash_id»;
-  digest = entryDigestBytes digests e;
+  key = keyOfEntry digests e;
   visibility = e .visibility;
   source = sourceOf (e .imported) (e .source);
   state = cond (entryGone e) gone (live (entryExtents extents e));
@@ -101,28 +100,28 @@ module _ (digests extents : List ℕ) where
     long : length (rowExtentNumbers r) ≡ 3 * length (rowExtents r)
     long = flat-long 3 extentNumbers (λ e. refl) (rowExtents r)
 
-    first-digest : HasAt digests d (r .digest)
+    first-digest : HasAt digests d (r .key .digest)
     unfolding flat
-    first-digest = has-left (r .digest) (flat digestOf rs) (s .digest)
+    first-digest = has-left (r .key .digest) (flat digestOf rs) (s .digest)
 
     first-slices : HasAt extents (3 * x) (rowExtentNumbers r)
     unfolding flat
     first-slices = has-left (rowExtentNumbers r) (flat rowExtentNumbers rs) (s .slices)
 
-    digest-end : d + length (r .digest) + length (flat digestOf rs) ≤ length digests
+    digest-end : d + length (r .key .digest) + length (flat digestOf rs) ≤ length digests
     unfolding flat
-    digest-end = omega (arith, s .digestEnd, length-append (r .digest) (flat digestOf rs))
+    digest-end = omega (arith, s .digestEnd, length-append (r .key .digest) (flat digestOf rs))
 
     slices-end : 3 * (x + length (rowExtents r)) + length (flat rowExtentNumbers rs) ≤ length extents
     unfolding flat
     slices-end = omega (arith, s .slicesEnd, long, length-append (rowExtentNumbers r) (flat rowExtentNumbers rs))
 
-    others : Standing digests extents rs (d + length (r .digest)) (x + length (rowExtents r))
+    others : Standing digests extents rs (d + length (r .key .digest)) (x + length (rowExtents r))
     unfolding flat
     others =
         let at : 3 * x + length (rowExtentNumbers r) ≡ 3 * (x + length (rowExtents r)) = omega (arith, long) in
         record {
-          digest = has-right (r .digest) (flat digestOf rs) (s .digest);
+          digest = has-right (r .key .digest) (flat digestOf rs) (s .digest);
           digestEnd = digest-end;
           slices = rw at at (has-right (rowExtentNumbers r) (flat rowExtentNumbers rs) (s .slices));
           slicesEnd = slices-end;
@@ -131,8 +130,7 @@ module _ (digests extents : List ℕ) where
     row-read : rowFor digests extents (entryOf r d x) ≡ r
     unfolding entryOf entryDigestBytes
     row-read = λ j. record {
-      hashId = r .hashId;
-      digest = has-taken (r .digest) (length (r .digest)) first-digest refl j;
+      key = keyFrom (r .key .hashId) (has-taken (r .key .digest) (length (r .key .digest)) first-digest refl j);
       visibility = r .visibility;
       source = source-read (r .source) j;
       state = state-read extents (entryOf r d x) (r .state) x (says r d x) first-slices j;

@@ -2,6 +2,7 @@
 -- Assumes nothing.
 use Prim.Native.Nat.{ℕ}
 use mathlib.Core.List.{List}
+use Rattle.segment.specs.Keys.{Key}
 use Rattle.segment.specs.Format.{v3}
 use Rattle.segment.specs.Meaning.{meaningOf}
 use Rattle.segment.specs.Write.{Request}
@@ -12,10 +13,10 @@ use Rattle.theorem_demands.proofs.LookUps.{look-up-finds}
 use Rattle.theorem_demands.proofs.Tidying.{tidied-iff, form-keeps, form-same-iff, accepted-form}
 use Rattle.theorem_demands.proofs.Writing.{written-iff, write-keeps, write-back, write-itself}
 
-pub demand-two : (pairs s : List ℕ) (hash : ℕ) (digest : List ℕ) (q : Request) (out : List ℕ) → DemandTwo pairs s hash digest q out
-demand-two pairs s hash digest q out = record {
+pub demand-two : (pairs s : List ℕ) (key : Key) (q : Request) (out : List ℕ) → DemandTwo pairs s key q out
+demand-two pairs s key q out = record {
   check = accepted-iff pairs s;
-  lookUp = look-up-finds pairs s hash digest;
+  lookUp = look-up-finds pairs s key;
   write = written-iff pairs q out;
   read-back = write-keeps pairs q out;
   write-back = λ t. write-itself pairs s out (t .bytes) (t .accepts) (t .tidy);

@@ -9,7 +9,7 @@ use native.Mathlib.Omega.{arith}
 use borrow.Author.Tests.{ne-eqb}
 use lib.ListN.{length, take, drop}
 use Rattle.answer.specs.declared.Refusal.{Refusal}
-use Rattle.answer.specs.declared.Rule.the-variants.{Table, Key}
+use Rattle.answer.specs.declared.Rule.the-variants.{Table, Key as KeyWrong}
 use Rattle.answer.specs.declared.Verdict.{Verdict}
 use Rattle.answer.specs.declared.Verdict.the-variants.{Accepted, Refused as Stopped}
 use Rattle.answer.specs.declared.Found.{Found}
@@ -21,8 +21,8 @@ use Rattle.answer.proofs.Order.{then-accepted}
 use Rattle.answer.proofs.Settled.{check-settled, found-settled}
 use Rattle.segment.specs.declared.record.Record.{Record}
 use Rattle.segment.specs.Format.{v3, headerOf, recordCount, recordNo}
-use Rattle.table.specs.Table.{goodTable, tableVerdict, allows}
-use Rattle.segment.specs.Keys.{keyOf}
+use Rattle.table.specs.Table.{goodTable, tableVerdict}
+use Rattle.segment.specs.Keys.{Key, keyOf, allowsKey}
 use Rattle.segment.specs.Check.{keyNo, segmentVerdict, checked, checkOf}
 use Rattle.segment.specs.LookUp.{keyVerdict, recordFound, foundOver, foundNo, foundIn, foundUnder, lookedUp, lookUpOf, extentsPart}
 use Rattle.lists.proofs.Equal.{eqList-iff, unequal}
@@ -46,48 +46,45 @@ live-part : (r : Record) (s : List ℕ) → (r .flags ≡ 1 → ⊥)
 unfolding recordFound extentsPart
 live-part r s n = rw (ne-eqb (r .flags) 1 n)
 
-module _ (pairs s : List ℕ) (hash : ℕ) (digest : List ℕ) (e : checkOf pairs s ≡ accepted) (a : allows pairs hash (length digest) ≡ true) where
-  key : List ℕ
-  key = keyOf hash digest
-
+module _ (pairs s : List ℕ) (key : Key) (e : checkOf pairs s ≡ accepted) (a : allowsKey pairs key ≡ true) where
   at : ℕ → Found
   at = foundNo v3 s (headerOf s) key
 
-  looked : lookedUp pairs s hash digest ≡ foundOver (recordCount (headerOf s)) at
-  unfolding lookedUp foundUnder keyVerdict foundIn at key
+  looked : lookedUp pairs s key ≡ foundOver (recordCount (headerOf s)) at
+  unfolding lookedUp foundUnder keyVerdict foundIn at
   looked = let p = accepted-parts pairs s e in rw (p .0, a, p .1)
 
   -- a record with the key, and one without it
-  here : (k : ℕ) → HasKey s hash digest k → at k ≡ recordFound (recordNo v3 s (headerOf s) k)
-  unfolding at foundNo key
-  here k h = rw (eqList-iff (keyNo v3 s (headerOf s) k) (keyOf hash digest) .1 (h .key))
+  here : (k : ℕ) → HasKey s key k → at k ≡ recordFound (recordNo v3 s (headerOf s) k)
+  unfolding at foundNo
+  here k h = rw (eqList-iff (keyNo v3 s (headerOf s) k) (keyOf key) .1 (h .same))
 
-  elsewhere : (k : ℕ) → (keyNo v3 s (headerOf s) k ≡ keyOf hash digest → ⊥) → at k ≡ Absent
-  unfolding at foundNo key
-  elsewhere k n = rw (sym (unequal (keyNo v3 s (headerOf s) k) (keyOf hash digest) n))
+  elsewhere : (k : ℕ) → (keyNo v3 s (headerOf s) k ≡ keyOf key → ⊥) → at k ≡ Absent
+  unfolding at foundNo
+  elsewhere k n = rw (sym (unequal (keyNo v3 s (headerOf s) k) (keyOf key) n))
 
-  one : (j k : ℕ) → HasKey s hash digest j → HasKey s hash digest k → j ≡ k
-  one j k p q = accepts-iff pairs s .0 e .1 .distinct j k (p .within) (q .within) (p .key ∙ sym (q .key))
+  one : (j k : ℕ) → HasKey s key j → HasKey s key k → j ≡ k
+  one j k p q = accepts-iff pairs s .0 e .1 .distinct j k (p .within) (q .within) (p .same ∙ sym (q .same))
 
-  none-found : ((k : ℕ) → HasKey s hash digest k → ⊥) → lookedUp pairs s hash digest ≡ Absent
-  none-found n = looked ∙ found-all (recordCount (headerOf s)) at (λ k l. elsewhere k (λ q. n k (record { within = l; key = q })))
+  none-found : ((k : ℕ) → HasKey s key k → ⊥) → lookedUp pairs s key ≡ Absent
+  none-found n = looked ∙ found-all (recordCount (headerOf s)) at (λ k l. elsewhere k (λ q. n k (record { within = l; same = q })))
 
-  that-found : (k : ℕ) → HasKey s hash digest k → lookedUp pairs s hash digest ≡ recordFound (recordNo v3 s (headerOf s) k)
+  that-found : (k : ℕ) → HasKey s key k → lookedUp pairs s key ≡ recordFound (recordNo v3 s (headerOf s) k)
   that-found k h =
       let before : foundOver k at ≡ Absent = found-all k at (λ j l. elsewhere j (λ q. absurd (less j l q))) in
       looked ∙ found-first (recordCount (headerOf s)) k at (h .within) before (λ z. never-absent (recordNo v3 s (headerOf s) k) (sym (here k h) ∙ z)) ∙ here k h
     where
-      less : (j : ℕ) → j < k → keyNo v3 s (headerOf s) j ≡ keyOf hash digest → ⊥
+      less : (j : ℕ) → j < k → keyNo v3 s (headerOf s) j ≡ keyOf key → ⊥
       less j l q =
           let w : k < recordCount (headerOf s) = h .within in
-          let z : j ≡ k = one j k (record { within = omega arith; key = q }) h in
+          let z : j ≡ k = one j k (record { within = omega arith; same = q }) h in
           omega arith
 
-  pub look-up-finds : Finds pairs s hash digest
+  pub look-up-finds : Finds pairs s key
   unfolding lookUpOf
   look-up-finds = record {
     absent-iff = (
-      λ q k h. never-absent (recordNo v3 s (headerOf s) k) (sym (that-found k h) ∙ found-settled (lookedUp pairs s hash digest) Absent q),
+      λ q k h. never-absent (recordNo v3 s (headerOf s) k) (sym (that-found k h) ∙ found-settled (lookedUp pairs s key) Absent q),
       λ n. ap foundAnswer (none-found n),
     );
     that-record = λ k h. ap foundAnswer (that-found k h);
@@ -97,21 +94,21 @@ module _ (pairs s : List ℕ) (hash : ℕ) (digest : List ℕ) (e : checkOf pair
 
 -- ---- each refusal of look up exactly when
 
-module _ (pairs s : List ℕ) (hash : ℕ) (digest : List ℕ) where
+module _ (pairs s : List ℕ) (key : Key) where
   looks : Found
-  looks = lookedUp pairs s hash digest
+  looks = lookedUp pairs s key
 
   under-bad : goodTable pairs ≡ false → looks ≡ NotFound (refusal Table 0)
   unfolding looks lookedUp tableVerdict
   under-bad g = rw g
 
   module _ (g : goodTable pairs ≡ true) where
-    no-key : allows pairs hash (length digest) ≡ false → looks ≡ NotFound (refusal Key 0)
+    no-key : allowsKey pairs key ≡ false → looks ≡ NotFound (refusal KeyWrong 0)
     unfolding looks lookedUp foundUnder keyVerdict tableVerdict
     no-key a = rw (g, a)
 
-    module _ (a : allows pairs hash (length digest) ≡ true) where
-      as-check : looks ≡ after NotFound (segmentVerdict v3 pairs s) (foundIn v3 s (headerOf s) (keyOf hash digest))
+    module _ (a : allowsKey pairs key ≡ true) where
+      as-check : looks ≡ after NotFound (segmentVerdict v3 pairs s) (foundIn v3 s (headerOf s) key)
       unfolding looks lookedUp foundUnder keyVerdict tableVerdict
       as-check = rw (g, a)
 
@@ -122,39 +119,39 @@ module _ (pairs s : List ℕ) (hash : ℕ) (digest : List ℕ) where
       from-check r e = go (segmentVerdict v3 pairs s) refl
         where
           go : (v : Verdict) → segmentVerdict v3 pairs s ≡ v → Given pairs s r
-          go Accepted q = absurd (never-refused s (headerOf s) (keyOf hash digest) r (sym (as-check ∙ rw q) ∙ e))
+          go Accepted q = absurd (never-refused s (headerOf s) key r (sym (as-check ∙ rw q) ∙ e))
           go (Stopped x) q =
               let z : NotFound x ≡ NotFound r = sym (as-check ∙ rw q) ∙ e in
               let same : x ≡ r = cc in
               checks r .0 (q ∙ ap Stopped same)
 
-  given : (r : Refusal) → looks ≡ NotFound r → LookGiven pairs s hash digest r
+  given : (r : Refusal) → looks ≡ NotFound r → LookGiven pairs s key r
   given r e =
       by-test (goodTable pairs)
       (λ g.
-      by-test (allows pairs hash (length digest)) (λ a. by-segment g a (from-check g a r e))
-      (λ a. let z : NotFound (refusal Key 0) ≡ NotFound r = sym (no-key g a) ∙ e in let same : (refusal Key 0) ≡ r = cc in rw (← same) (by-key g a)))
+      by-test (allowsKey pairs key) (λ a. by-segment g a (from-check g a r e))
+      (λ a. let z : NotFound (refusal KeyWrong 0) ≡ NotFound r = sym (no-key g a) ∙ e in let same : (refusal KeyWrong 0) ≡ r = cc in rw (← same) (by-key g a)))
       (λ g. let z : NotFound (refusal Table 0) ≡ NotFound r = sym (under-bad g) ∙ e in let same : (refusal Table 0) ≡ r = cc in rw (← same) (by-table g))
 
-  refuses : (r : Refusal) → LookGiven pairs s hash digest r → looks ≡ NotFound r
+  refuses : (r : Refusal) → LookGiven pairs s key r → looks ≡ NotFound r
   refuses r (by-table g) = under-bad g
   refuses r (by-key g a) = no-key g a
   refuses r (by-segment g a n) = as-check g a ∙ rw (checks g a r .1 n)
 
-  pub look-refused-iff : (r : Refusal) → lookedUp pairs s hash digest ≡ NotFound r ↔ LookGiven pairs s hash digest r
+  pub look-refused-iff : (r : Refusal) → lookedUp pairs s key ≡ NotFound r ↔ LookGiven pairs s key r
   unfolding looks
   look-refused-iff r = (given r, refuses r)
 
   -- in document 01's numbers
-  pub look-refused-numbers : (r : Refusal) → lookUpOf pairs s hash digest ≡ refused r ↔ LookGiven pairs s hash digest r
+  pub look-refused-numbers : (r : Refusal) → lookUpOf pairs s key ≡ refused r ↔ LookGiven pairs s key r
   unfolding lookUpOf
-  look-refused-numbers = in-numbers foundAnswer NotFound found-settled (λ r. refl) (lookedUp pairs s hash digest) look-refused-iff
+  look-refused-numbers = in-numbers foundAnswer NotFound found-settled (λ r. refl) (lookedUp pairs s key) look-refused-iff
 
 -- ---- two answers that one promise allows are equal
 
 pub one-verdict : (pairs s : List ℕ) (v w : Verdict) → checkAnswer v ≡ checkOf pairs s → checkAnswer w ≡ checkOf pairs s → v ≡ w
 one-verdict pairs s v w p q = check-settled v w (p ∙ sym q)
 
-pub one-found : (pairs s : List ℕ) (hash : ℕ) (digest : List ℕ) (f g : Found) → foundAnswer f ≡ lookUpOf pairs s hash digest
-    → foundAnswer g ≡ lookUpOf pairs s hash digest → f ≡ g
-one-found pairs s hash digest f g p q = found-settled f g (p ∙ sym q)
+pub one-found : (pairs s : List ℕ) (key : Key) (f g : Found) → foundAnswer f ≡ lookUpOf pairs s key
+    → foundAnswer g ≡ lookUpOf pairs s key → f ≡ g
+one-found pairs s key f g p q = found-settled f g (p ∙ sym q)

@@ -40,7 +40,7 @@ use Rattle.segment.specs.Format.{
   extentCount,
 }
 use Rattle.table.specs.Table.{goodTable, allows, tableVerdict}
-use Rattle.segment.specs.Keys.{keyOf}
+use Rattle.segment.specs.Keys.{keyOf, Key, allowsKey, keyFrom}
 use Rattle.lists.specs.Lists.{lexLeq, insert, sortBy, Each}
 use Rattle.segment.specs.Check.{
   sizeVerdict,
@@ -122,19 +122,19 @@ check-is : (pairs s : List ℕ) {v : Verdict} → goodTable pairs ≡ true → s
 unfolding checkOf checked tableVerdict
 check-is pairs s g e = rw (g, e)
 
-found-is : (pairs s : List ℕ) (hash : ℕ) (digest : List ℕ) {f : Found} → goodTable pairs ≡ true → allows pairs hash (length digest) ≡ true
-    → segmentVerdict v3 pairs s ≡ Accepted → foundIn v3 s (headerOf s) (keyOf hash digest) ≡ f → lookUpOf pairs s hash digest ≡ foundAnswer f
+found-is : (pairs s : List ℕ) (key : Key) {f : Found} → goodTable pairs ≡ true → allowsKey pairs key ≡ true
+    → segmentVerdict v3 pairs s ≡ Accepted → foundIn v3 s (headerOf s) key ≡ f → lookUpOf pairs s key ≡ foundAnswer f
 unfolding lookUpOf lookedUp foundUnder tableVerdict keyVerdict
-found-is pairs s hash digest g a e k = rw (g, a, e, k)
+found-is pairs s key g a e k = rw (g, a, e, k)
 
 none-accepted : (pairs s : List ℕ) (t : Heading) → goodTable pairs ≡ true → NoRecords s t 0 → checkOf pairs s ≡ accepted
 none-accepted pairs s t g f = check-is pairs s g (none-checked pairs s t 0 g f (omega arith))
 
-none-found : (pairs s : List ℕ) (t : Heading) (hash : ℕ) (digest : List ℕ) → goodTable pairs ≡ true → NoRecords s t 0
-    → allows pairs hash (length digest) ≡ true → lookUpOf pairs s hash digest ≡ absent
+none-found : (pairs s : List ℕ) (t : Heading) (key : Key) → goodTable pairs ≡ true → NoRecords s t 0
+    → allowsKey pairs key ≡ true → lookUpOf pairs s key ≡ absent
 unfolding foundIn foundOver
-none-found pairs s t hash digest g f a =
-    found-is pairs s hash digest {f = Absent} g a (none-checked pairs s t 0 g f (omega arith)) (rw (f .header))
+none-found pairs s t key g f a =
+    found-is pairs s key {f = Absent} g a (none-checked pairs s t 0 g f (omega arith)) (rw (f .header))
 
 empty-lies : (t : Heading) → Lies (tidyOfRows t []) 112 112 0 112 136
 unfolding tidyForm formOf formBody formHeader sortBy packed headerFields recordsBytes digestBytes digestSection extentBytes footerFields bytesOf headerOf numAt le
@@ -174,7 +174,7 @@ pub empty : Empty
 empty = record {
   lies = empty-lies;
   form-accepts = λ pairs t g. none-accepted pairs (tidyOfRows t []) _ g (empty-form t);
-  form-finds-none = λ pairs t hash digest g. none-found pairs (tidyOfRows t []) _ hash digest g (empty-form t);
+  form-finds-none = λ pairs t key g. none-found pairs (tidyOfRows t []) _ key g (empty-form t);
   must-lie = empty-placed;
   accepts = none-accepted;
   finds-none = none-found;
@@ -259,13 +259,13 @@ unfolding totals allFit sumLengths
 empty-fits block offset h = rw (le-leb (offset + 0) 4294967296 (omega arith))
 
 key-itself : (s : List ℕ) (t : Heading) (total : ℕ) (e : Extent) → OneExtent s t total e
-    → foundIn v3 s (headerOf s) (keyOf 7 (take 4 (drop 160 s))) ≡ Present 0 (t .domain) None total 168 1
+    → foundIn v3 s (headerOf s) (keyFrom 7 (take 4 (drop 160 s))) ≡ Present 0 (t .domain) None total 168 1
 unfolding foundIn foundOver foundNo recordFound keyNo digestIn recordNo
 key-itself s t total e f = rw (f .header, f .record₀, eqList-self (7 ∷ take 4 (drop 160 s)))
 
 pub empty-export : EmptyExport
 empty-export = λ pairs s t block offset g h f.
-    found-is pairs s 7 (take 4 (drop 160 s)) {f = Present 0 (t .domain) None 0 168 1} (g .good) (digest-long pairs s (f .long) (g .seven))
+    found-is pairs s (keyFrom 7 (take 4 (drop 160 s))) {f = Present 0 (t .domain) None 0 168 1} (g .good) (digest-long pairs s (f .long) (g .seven))
     (with-extent pairs s t 0 _ g f ∙ empty-fits block offset h) (key-itself s t 0 _ f)
 
 -- ---- one record with no extent

@@ -7,6 +7,7 @@ use mathlib.Core.Bool.{Bool, true, false, _&&_, _||_}
 use mathlib.Core.List.{List}
 use lib.Dec.{leb, eqb}
 use Rattle.answer.specs.Answers.{Answer}
+use Rattle.segment.specs.Keys.{Key}
 use Rattle.segment.specs.Format.{headerOf, recordCount}
 use Rattle.segment.specs.Check.{checkOf}
 use Rattle.segment.specs.LookUp.{lookUpOf}
@@ -32,8 +33,8 @@ pub record Leaves (n : ℕ) (o : Outcome) (out : List ℕ) : Type 0 where
   pub placed : PlacedAmong n (o .answer)
   pub kept : (o .answer .number ≡ 0 → ⊥) → o .output ≡ out
 
-pub record DemandOne (pairs s : List ℕ) (hash : ℕ) (digest : List ℕ) (q : Request) (out : List ℕ) : Type 0 where
+pub record DemandOne (pairs s : List ℕ) (key : Key) (q : Request) (out : List ℕ) : Type 0 where
   pub check : PlacedAmong (recordCount (headerOf s)) (checkOf pairs s)
-  pub lookUp : PlacedAmong (recordCount (headerOf s)) (lookUpOf pairs s hash digest)
+  pub lookUp : PlacedAmong (recordCount (headerOf s)) (lookUpOf pairs s key)
   pub write : Leaves (entryCount (q .entries)) (writeOf pairs q out) out
   pub tidy : Leaves (recordCount (headerOf s)) (tidyOf pairs s out) out

@@ -31,7 +31,7 @@ extentNumbers e = e .block ∷ e .offset .0 ∷ e .length ∷ []
 
 -- a record's digest, and the numbers of its extents
 abbrev pub digestOf : Row → List ℕ
-digestOf r = r .digest
+digestOf r = r .key .digest
 
 abbrev pub rowExtentNumbers : Row → List ℕ
 rowExtentNumbers r = flat extentNumbers (rowExtents r)
@@ -39,9 +39,9 @@ rowExtentNumbers r = flat extentNumbers (rowExtents r)
 -- a gone one has 0 for the last two
 unfoldable pub entryOf : Row → ℕ → ℕ → Entry
 entryOf r digests extents = record {
-  «hash_id» = r .hashId;
+  «hash_id» = r .key .hashId;
   «digest_start» = digests;
-  «digest_length» = length (r .digest);
+  «digest_length» = length (r .key .digest);
   visibility = r .visibility;
   imported = importedOf (r .source);
   source = domainOf (r .source);
@@ -52,7 +52,7 @@ entryOf r digests extents = record {
 
 unfoldable pub entriesFor : List Row → ℕ → ℕ → List Entry
 entriesFor [] digests extents = []
-entriesFor (r ∷ rs) digests extents = entryOf r digests extents ∷ entriesFor rs (digests + length (r .digest)) (extents + length (rowExtents r))
+entriesFor (r ∷ rs) digests extents = entryOf r digests extents ∷ entriesFor rs (digests + length (r .key .digest)) (extents + length (rowExtents r))
 
 unfoldable pub requestFor : Meaning → Request
 requestFor m = record {

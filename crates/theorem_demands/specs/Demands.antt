@@ -7,6 +7,7 @@ use mathlib.Core.Logic.{_↔_}
 use mathlib.Core.List.{List}
 use lib.ListN.{length}
 use Rattle.numbers.specs.Numbers.{Bytes}
+use Rattle.segment.specs.Keys.{Key, allowsKey}
 use Rattle.segment.specs.Format.{v3, fileLimit}
 use Rattle.table.specs.Table.{goodTable, allows}
 use Rattle.segment.specs.Check.{checkOf}
@@ -26,11 +27,11 @@ pub record TidySegment (pairs s : List ℕ) : Type 0 where
   pub accepts : checkOf pairs s ≡ accepted
   pub tidy : tidyBytes s ≡ s
 
-pub record DemandTwo (pairs s : List ℕ) (hash : ℕ) (digest : List ℕ) (q : Request) (out : List ℕ) : Type 0 where
+pub record DemandTwo (pairs s : List ℕ) (key : Key) (q : Request) (out : List ℕ) : Type 0 where
   -- under a good table a segment is accepted exactly when it meets every rule
   pub check : goodTable pairs ≡ true → (checkOf pairs s ≡ accepted) ↔ Meets v3 pairs s
   -- a lookup says absent exactly when no record has the key, and otherwise gives that record
-  pub lookUp : checkOf pairs s ≡ accepted → allows pairs hash (length digest) ≡ true → Finds pairs s hash digest
+  pub lookUp : checkOf pairs s ≡ accepted → allowsKey pairs key ≡ true → Finds pairs s key
   -- write writes exactly when nothing is refused, and then one result only
   pub write : (r : List ℕ) → Wrote (writeOf pairs q out) out r ↔ Writes pairs q (length out) × (r ≡ writtenBytes q)
   -- records written and read back are the same set

@@ -8,35 +8,35 @@ use mathlib.Core.Logic.{_↔_}
 use mathlib.Core.List.{List}
 use lib.ListN.{length, take, drop}
 use Rattle.answer.specs.declared.Refusal.{Refusal}
-use Rattle.answer.specs.declared.Rule.the-variants.{Table, Key}
+use Rattle.answer.specs.declared.Rule.the-variants.{Table, Key as KeyWrong}
 use Rattle.answer.specs.Answers.{refusal, foundAnswer}
 use Rattle.segment.specs.Format.{v3, extentSize, headerOf, recordCount, recordNo}
-use Rattle.table.specs.Table.{goodTable, allows}
-use Rattle.segment.specs.Keys.{keyOf}
+use Rattle.table.specs.Table.{goodTable}
+use Rattle.segment.specs.Keys.{Key, keyOf, allowsKey}
 use Rattle.segment.specs.Check.{keyNo}
 use Rattle.segment.specs.LookUp.{recordFound, lookedUp, lookUpOf, extentsPart}
 use Rattle.theorem_demands.specs.PCases.{absent}
 use Rattle.theorem_demands.specs.Refusals.{Given}
 
--- record k of the segment has the key of a hash id and a digest
-pub record HasKey (s : List ℕ) (hash : ℕ) (digest : List ℕ) (k : ℕ) : Type 0 where
+-- record k of the segment has the key
+pub record HasKey (s : List ℕ) (key : Key) (k : ℕ) : Type 0 where
   pub within : k < recordCount (headerOf s)
-  pub key : keyNo v3 s (headerOf s) k ≡ keyOf hash digest
+  pub same : keyNo v3 s (headerOf s) k ≡ keyOf key
 
-pub record Finds (pairs s : List ℕ) (hash : ℕ) (digest : List ℕ) : Type 0 where
+pub record Finds (pairs s : List ℕ) (key : Key) : Type 0 where
   -- absent exactly when no record has the key
-  pub absent-iff : lookUpOf pairs s hash digest ≡ absent ↔ ((k : ℕ) → HasKey s hash digest k → ⊥)
+  pub absent-iff : lookUpOf pairs s key ≡ absent ↔ ((k : ℕ) → HasKey s key k → ⊥)
   -- otherwise that record's answer, field for field
-  pub that-record : (k : ℕ) → HasKey s hash digest k → lookUpOf pairs s hash digest ≡ foundAnswer (recordFound (recordNo v3 s (headerOf s) k))
+  pub that-record : (k : ℕ) → HasKey s key k → lookUpOf pairs s key ≡ foundAnswer (recordFound (recordNo v3 s (headerOf s) k))
   -- and, if it is not gone, the part that is handed back is its extents' bytes
-  pub its-extents : (k : ℕ) → HasKey s hash digest k → (recordNo v3 s (headerOf s) k .flags ≡ 1 → ⊥)
-      → extentsPart (lookedUp pairs s hash digest) s
+  pub its-extents : (k : ℕ) → HasKey s key k → (recordNo v3 s (headerOf s) k .flags ≡ 1 → ⊥)
+      → extentsPart (lookedUp pairs s key) s
       ≡ take (extentSize * recordNo v3 s (headerOf s) k .«extent_count») (drop (recordNo v3 s (headerOf s) k .«extents_offset» .0) s)
   -- there is at most one
-  pub only-one : (j k : ℕ) → HasKey s hash digest j → HasKey s hash digest k → j ≡ k
+  pub only-one : (j k : ℕ) → HasKey s key j → HasKey s key k → j ≡ k
 
 -- when look up gives a refusal: 14, then 17, then as check
-pub data LookGiven (pairs s : List ℕ) (hash : ℕ) (digest : List ℕ) : Refusal → Type 0 where
-  by-table : goodTable pairs ≡ false → LookGiven pairs s hash digest (refusal Table 0)
-  by-key : goodTable pairs ≡ true → allows pairs hash (length digest) ≡ false → LookGiven pairs s hash digest (refusal Key 0)
-  by-segment : {r : Refusal} → goodTable pairs ≡ true → allows pairs hash (length digest) ≡ true → Given pairs s r → LookGiven pairs s hash digest r
+pub data LookGiven (pairs s : List ℕ) (key : Key) : Refusal → Type 0 where
+  by-table : goodTable pairs ≡ false → LookGiven pairs s key (refusal Table 0)
+  by-key : goodTable pairs ≡ true → allowsKey pairs key ≡ false → LookGiven pairs s key (refusal KeyWrong 0)
+  by-segment : {r : Refusal} → goodTable pairs ≡ true → allowsKey pairs key ≡ true → Given pairs s r → LookGiven pairs s key r

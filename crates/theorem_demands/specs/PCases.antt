@@ -11,6 +11,7 @@ use Rattle.answer.specs.declared.Source.{Source}
 use Rattle.answer.specs.declared.Source.the-variants.{None}
 use Rattle.answer.specs.declared.Verdict.the-variants.{Accepted}
 use Rattle.answer.specs.Answers.{Answer, answered}
+use Rattle.segment.specs.Keys.{Key, keyFrom, allowsKey}
 use Rattle.segment.specs.declared.header.Header.{Header}
 use Rattle.segment.specs.declared.header.Heading.{Heading}
 use Rattle.segment.specs.declared.record.Record.{Record}
@@ -142,15 +143,15 @@ pub record Empty : Type 0 where
   -- the tidy form of no records, under any heading
   pub lies : (t : Heading) → Lies (tidyOfRows t []) 112 112 0 112 136
   pub form-accepts : (pairs : List ℕ) (t : Heading) → goodTable pairs ≡ true → checkOf pairs (tidyOfRows t []) ≡ accepted
-  pub form-finds-none : (pairs : List ℕ) (t : Heading) (hash : ℕ) (digest : List ℕ) → goodTable pairs ≡ true
-      → allows pairs hash (length digest) ≡ true → lookUpOf pairs (tidyOfRows t []) hash digest ≡ absent
+  pub form-finds-none : (pairs : List ℕ) (t : Heading) (key : Key) → goodTable pairs ≡ true
+      → allowsKey pairs key ≡ true → lookUpOf pairs (tidyOfRows t []) key ≡ absent
   -- any accepted segment whose sections are empty
   pub must-lie : (pairs s : List ℕ) → checkOf pairs s ≡ accepted → recordCount (headerOf s) ≡ 0 → bloomSize (headerOf s) ≡ 0
       → digestsSize (headerOf s) ≡ 0 → extentCount (headerOf s) ≡ 0 → Lies s 112 112 0 112 136
   -- any file with these offsets that carries its right checksum
   pub accepts : (pairs s : List ℕ) (t : Heading) → goodTable pairs ≡ true → NoRecords s t 0 → checkOf pairs s ≡ accepted
-  pub finds-none : (pairs s : List ℕ) (t : Heading) (hash : ℕ) (digest : List ℕ) → goodTable pairs ≡ true → NoRecords s t 0
-      → allows pairs hash (length digest) ≡ true → lookUpOf pairs s hash digest ≡ absent
+  pub finds-none : (pairs s : List ℕ) (t : Heading) (key : Key) → goodTable pairs ≡ true → NoRecords s t 0
+      → allowsKey pairs key ≡ true → lookUpOf pairs s key ≡ absent
 
 -- 0 bytes and 135 bytes: refusal 1
 pub record Short : Type 0 where
@@ -160,8 +161,7 @@ pub record Short : Type 0 where
 -- a record with a 4-byte digest and one extent
 abbrev pub rowWith : (hash a b c d visibility : ℕ) → Source → Extent → Row
 rowWith hash a b c d visibility source e = record {
-  hashId = hash;
-  digest = a ∷ b ∷ c ∷ d ∷ [];
+  key = keyFrom hash (a ∷ b ∷ c ∷ d ∷ []);
   visibility = visibility;
   source = source;
   state = live (e ∷ []);
@@ -178,13 +178,12 @@ pub record OneRow : Type 0 where
 abbrev pub caseL : List Row
 caseL =
     record {
-      hashId = 7;
-      digest = 0x0a ∷ 0x0b ∷ 0x0c ∷ 0x0d ∷ [];
+      key = keyFrom 7 (0x0a ∷ 0x0b ∷ 0x0c ∷ 0x0d ∷ []);
       visibility = 1;
       source = None;
       state = live (record { block = 9; offset = inBlock 64; length = 3 } ∷ []);
     }
-    ∷ record { hashId = 7; digest = 0x0a ∷ 0x0b ∷ 0x0c ∷ 0x0e ∷ []; visibility = 0; source = None; state = gone } ∷ []
+    ∷ record { key = keyFrom 7 (0x0a ∷ 0x0b ∷ 0x0c ∷ 0x0e ∷ []); visibility = 0; source = None; state = gone } ∷ []
 
 -- case L's offsets 112, 208, 216, file 256
 abbrev pub CaseL : Type 0
@@ -209,7 +208,7 @@ abbrev pub EmptyExport : Type 0
 EmptyExport =
     (pairs s : List ℕ) (t : Heading) (block offset : ℕ) → Stored pairs → offset ≤ 4294967295
     → OneExtent s t 0 (record { block = block; offset = inBlock offset; length = 0 })
-    → lookUpOf pairs s 7 (take 4 (drop 160 s)) ≡ answered (0 ∷ t .domain ∷ 0 ∷ 0 ∷ 0 ∷ 168 ∷ 1 ∷ [])
+    → lookUpOf pairs s (keyFrom 7 (take 4 (drop 160 s))) ≡ answered (0 ∷ t .domain ∷ 0 ∷ 0 ∷ 0 ∷ 168 ∷ 1 ∷ [])
 
 -- live with no extents: refusal 9, wherever its extents are said to lie and whatever its total is
 abbrev pub LiveWithout : Type 0

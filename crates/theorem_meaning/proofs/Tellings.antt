@@ -20,7 +20,7 @@ use Rattle.segment.specs.declared.record.Record.{Record}
 use Rattle.segment.specs.declared.extent.Extent.{Extent}
 use Rattle.segment.specs.Format.{v3, headerOf, recordCount, recordNo, extentOf, extentsAt}
 use Rattle.table.specs.Table.{allows}
-use Rattle.segment.specs.Keys.{keyOf}
+use Rattle.segment.specs.Keys.{keyOf, Key, allowsKey}
 use Rattle.segment.specs.Check.{isGone, keyNo, checkOf}
 use Rattle.segment.specs.Meets.{LayoutMeets, LiveMeets, RecordMeets, Meets}
 use Rattle.segment.specs.Meaning.{Row, rowKey, sourceOf, rowOf, rowNo, rowsOf, headingOf, meaningOf, SameMeaning}
@@ -74,65 +74,65 @@ record-told s h pairs q y m =
 
 -- ---- an accepted segment
 
-module _ (pairs s : List ℕ) (hash : ℕ) (digest : List ℕ) (e : checkOf pairs s ≡ accepted) (a : allows pairs hash (length digest) ≡ true) where
+module _ (pairs s : List ℕ) (key : Key) (e : checkOf pairs s ≡ accepted) (a : allowsKey pairs key ≡ true) where
   abbrev row : ℕ → Row
   row = rowNo v3 s (headerOf s)
 
   abbrev count : ℕ
   count = recordCount (headerOf s)
 
-  finds : Finds pairs s hash digest
-  finds = look-up-finds pairs s hash digest e a
+  finds : Finds pairs s key
+  finds = look-up-finds pairs s key e a
 
   -- a row's key is the record's
-  has-key : (k : ℕ) → k < count → rowKey (row k) ≡ keyOf hash digest → HasKey s hash digest k
+  has-key : (k : ℕ) → k < count → rowKey (row k) ≡ keyOf key → HasKey s key k
   unfolding rowNo rowOf keyNo
-  has-key k l q = record { within = l; key = q }
+  has-key k l q = record { within = l; same = q }
 
-  row-key : (k : ℕ) → HasKey s hash digest k → rowKey (row k) ≡ keyOf hash digest
+  row-key : (k : ℕ) → HasKey s key k → rowKey (row k) ≡ keyOf key
   unfolding rowNo rowOf keyNo
-  row-key k h = h .key
+  row-key k h = h .same
 
-  row-told : (k : ℕ) → HasKey s hash digest k → tellingOf (lookedUp pairs s hash digest) s ≡ rowTelling (headerOf s .domain) (row k)
+  row-told : (k : ℕ) → HasKey s key k → tellingOf (lookedUp pairs s key) s ≡ rowTelling (headerOf s .domain) (row k)
   unfolding lookUpOf rowNo
   row-told k h =
       let m : Meets v3 pairs s = accepts-iff pairs s .0 e .1 in
       let q : Record = recordNo v3 s (headerOf s) k in
-      let found : lookedUp pairs s hash digest ≡ recordFound q = found-settled (lookedUp pairs s hash digest) (recordFound q) (finds .that-record k h) in
+      let found : lookedUp pairs s key ≡ recordFound q = found-settled (lookedUp pairs s key) (recordFound q) (finds .that-record k h) in
       ap (λ (f : Found). tellingOf f s) found ∙ record-told s (headerOf s) pairs q (m .layout) (m .each k (h .within))
 
-  pub look-up-means : LookMeans pairs s hash digest
+  pub look-up-means : LookMeans pairs s key
   unfolding meaningOf headingOf rowsOf
   look-up-means = record {
     absent-iff = (
-      λ q. members-iff (λ (r : Row). ¬ (rowKey r ≡ keyOf hash digest)) (λ r. ¬-prop) row count .1 (λ k l t. finds .absent-iff .0 q k (has-key k l t)),
+      λ q. members-iff (λ (r : Row). ¬ (rowKey r ≡ keyOf key)) (λ r. ¬-prop) row count .1 (λ k l t. finds .absent-iff .0 q k (has-key k l t)),
       λ n. finds .absent-iff .1 (λ k h. n (row k) (counted-member row count k (h .within)) (row-key k h)),
     );
     that-row =
-        members-iff (λ (r : Row). rowKey r ≡ keyOf hash digest → tellingOf (lookedUp pairs s hash digest) s ≡ rowTelling (headerOf s .domain) r)
+        members-iff (λ (r : Row). rowKey r ≡ keyOf key → tellingOf (lookedUp pairs s key) s ≡ rowTelling (headerOf s .domain) r)
         (λ r. →-prop (Telling-set _ _)) row count .1 (λ k l t. row-told k (has-key k l t));
   }
 
 -- ---- two that mean the same
 
-none-alike : (pairs s : List ℕ) (hash : ℕ) (digest : List ℕ) → lookUpOf pairs s hash digest ≡ absent → lookedUp pairs s hash digest ≡ Absent
+none-alike : (pairs s : List ℕ) (key : Key) → lookUpOf pairs s key ≡ absent → lookedUp pairs s key ≡ Absent
 unfolding lookUpOf
-none-alike pairs s hash digest e = found-settled (lookedUp pairs s hash digest) Absent e
+none-alike pairs s key e = found-settled (lookedUp pairs s key) Absent e
 
-pub look-ups-alike : (pairs a others b : List ℕ) (hash : ℕ) (digest : List ℕ) → checkOf pairs a ≡ accepted → checkOf others b ≡ accepted
-    → allows pairs hash (length digest) ≡ true → allows others hash (length digest) ≡ true → SameMeaning (meaningOf v3 a) (meaningOf v3 b)
-    → tellingOf (lookedUp pairs a hash digest) a ≡ tellingOf (lookedUp others b hash digest) b
+pub look-ups-alike : (pairs a others b : List ℕ) (key : Key) → checkOf pairs a ≡ accepted → checkOf others b ≡ accepted
+    → allowsKey pairs key ≡ true → allowsKey others key ≡ true → SameMeaning (meaningOf v3 a) (meaningOf v3 b)
+    → tellingOf (lookedUp pairs a key) a ≡ tellingOf (lookedUp others b key) b
 unfolding rowsOf meaningOf
-look-ups-alike pairs a others b hash digest e f p q same =
-    let first = look-up-means pairs a hash digest e p in
-    let second = look-up-means others b hash digest f q in
+look-ups-alike pairs a others b key e f p q same =
+    let first = look-up-means pairs a key e p in
+    let second = look-up-means others b key f q in
     let rows = rowNo v3 a (headerOf a) in
-    by-search (λ k. rowKey (rows k)) (keyOf hash digest) (recordCount (headerOf a))
+    by-search (λ k. rowKey (rows k)) (keyOf key) (recordCount (headerOf a))
     (λ none.
-    let nowhere = members-iff (λ (r : Row). ¬ (rowKey r ≡ keyOf hash digest)) (λ r. ¬-prop) rows (recordCount (headerOf a)) .1 none in
+    let nowhere = members-iff (λ (r : Row). ¬ (rowKey r ≡ keyOf key)) (λ r. ¬-prop) rows (recordCount (headerOf a)) .1 none in
     rw (
-      none-alike pairs a hash digest (first .absent-iff .1 nowhere),
-      none-alike others b hash digest (second .absent-iff .1 (λ r m. nowhere r (same .records r .1 m))),
+      none-alike pairs a key (first .absent-iff .1 nowhere),
+      none-alike others b key (second .absent-iff .1 (λ r m. nowhere r (same .records r .1 m))),
     ))
     (λ k l t.
     let here = counted-member rows (recordCount (headerOf a)) k l in

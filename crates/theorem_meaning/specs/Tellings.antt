@@ -17,7 +17,7 @@ use Rattle.answer.specs.declared.Found.the-variants.{Absent, Gone, Present, Ref
 use Rattle.answer.specs.Answers.{Answer, foundAnswer}
 use Rattle.segment.specs.declared.extent.Extent.{Extent}
 use Rattle.segment.specs.Format.{v3, extentsAt}
-use Rattle.segment.specs.Keys.{keyOf}
+use Rattle.segment.specs.Keys.{keyOf, Key}
 use Rattle.segment.specs.Check.{sumLengths}
 use Rattle.segment.specs.Meaning.{State, gone, live, Row, rowKey, rowExtents, meaningOf}
 use Rattle.segment.specs.LookUp.{lookedUp, lookUpOf, extentsPart}
@@ -51,8 +51,8 @@ stateFound visibility domain source (live es) = Present visibility domain source
 abbrev pub rowTelling : ℕ → Row → Telling
 rowTelling domain r = record { answer = foundAnswer (stateFound (r .visibility) domain (r .source) (r .state)); extents = rowExtents r }
 
-pub record LookMeans (pairs s : List ℕ) (hash : ℕ) (digest : List ℕ) : Type 0 where
-  pub absent-iff : lookUpOf pairs s hash digest ≡ absent
-      ↔ ((r : Row) → List·Mem r (meaningOf v3 s .records) → ¬ (rowKey r ≡ keyOf hash digest))
-  pub that-row : (r : Row) → List·Mem r (meaningOf v3 s .records) → rowKey r ≡ keyOf hash digest
-      → tellingOf (lookedUp pairs s hash digest) s ≡ rowTelling (meaningOf v3 s .heading .domain) r
+pub record LookMeans (pairs s : List ℕ) (key : Key) : Type 0 where
+  pub absent-iff : lookUpOf pairs s key ≡ absent
+      ↔ ((r : Row) → List·Mem r (meaningOf v3 s .records) → ¬ (rowKey r ≡ keyOf key))
+  pub that-row : (r : Row) → List·Mem r (meaningOf v3 s .records) → rowKey r ≡ keyOf key
+      → tellingOf (lookedUp pairs s key) s ≡ rowTelling (meaningOf v3 s .heading .domain) r

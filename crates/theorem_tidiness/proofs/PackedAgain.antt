@@ -95,9 +95,9 @@ module _ (pairs s : List ℕ) (b : Bytes s) (m : Meets v3 pairs s) (p : IsPacked
   digests-on zero k l = let z : k + 0 ≡ k = omega arith in rw z (append-nil _)
   digests-on (suc n) k l =
       let z : k + suc n ≡ suc k + n = omega arith in
-      let here : row pairs s m k .digest ≡ part s (digestPlace s k) (digestLength s k) =
+      let here : row pairs s m k .key .digest ≡ part s (digestPlace s k) (digestLength s k) =
       ap (λ (i : ℕ). part s i (digestLength s k)) (p .digests k (omega arith)) in
-      further s (row pairs s m k .digest) (digestBytes (rows pairs s m (suc k) n)) (digestsOffset (headerOf s)) (digestsBefore s k) (digestLength s k) here
+      further s (row pairs s m k .key .digest) (digestBytes (rows pairs s m (suc k) n)) (digestsOffset (headerOf s)) (digestsBefore s k) (digestLength s k) here
       ∙ rw z (digests-on n (suc k) (omega arith))
 
   row-extents : (k : ℕ) → k < count pairs s m → extentListBytes (rowExtents (row pairs s m k)) ≡ part s (extentPlace s k) (16 * extentsOf s k)

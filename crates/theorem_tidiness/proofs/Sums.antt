@@ -47,7 +47,7 @@ module _ (pairs s : List ℕ) (m : Meets v3 pairs s) where
   abbrev pub rows : ℕ → ℕ → List Row
   rows k n = map row (countFrom k n)
 
-  pub digest-long : (k : ℕ) → k < count → length (row k .digest) ≡ digestLength s k
+  pub digest-long : (k : ℕ) → k < count → length (row k .key .digest) ≡ digestLength s k
   unfolding rowNo rowOf digestIn
   digest-long k l =
       let q : Record = recordIn s k in
@@ -69,7 +69,7 @@ module _ (pairs s : List ℕ) (m : Meets v3 pairs s) where
       let e : k + suc n ≡ suc k + n = omega arith in
       let here = digest-long k (omega arith) in
       let there = digests-sum n (suc k) (omega arith) in
-      rw e (omega (arith, length-append (row k .digest) (digestBytes (rows (suc k) n))))
+      rw e (omega (arith, length-append (row k .key .digest) (digestBytes (rows (suc k) n))))
 
   pub extents-sum : (n k : ℕ) → k + n ≤ count → extentsBefore s k + extentTotal (rows k n) ≡ extentsBefore s (k + n)
   unfolding extentTotal countFrom sumBelow

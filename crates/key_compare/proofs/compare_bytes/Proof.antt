@@ -3,7 +3,7 @@ use Prim.Native.Nat.{_≤_, _-_}
 use mathlib.Core.Path.{_≡_}
 use lib.ListN.{length, drop}
 use borrow.Author.Needs.{needs}
-use Rattle.key_compare.specs.Lexical.{lex}
+use Rattle.key.specs.Heads.{lex}
 use Rattle.key_compare.proofs.Compare.{lex-steps}
 use Rattle.key_compare.proofs.compare_bytes.Statement.{statement}
 use Rattle.key_compare.proofs.compare_bytes.Tie as tie

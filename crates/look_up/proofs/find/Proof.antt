@@ -3,16 +3,16 @@ use Prim.Native.Nat.{_≤_, _-_}
 use borrow.Author.Needs.{needs}
 use native.Mathlib.Omega.{arith}
 use Rattle.check_segment.proofs.SegmentOrder.{Readable, sound-of, readable}
-use Rattle.segment.specs.Keys.{keyOf}
+use Rattle.segment.specs.Keys.{keyFrom}
 use Rattle.look_up.proofs.Finding.{Searching, search-start, search-more, search-hit, search-done}
 use Rattle.look_up.proofs.find.Statement.{statement}
 use Rattle.look_up.proofs.find.Tie as tie
 
 abbrev Inv-loop : tie.InvT-loop
-Inv-loop pairs seg hash digest first count k₀ k = (k ≤ count) × Searching seg (keyOf hash digest) k
+Inv-loop pairs seg hash digest first count head k₀ k = (k ≤ count) × Searching seg (keyFrom hash digest) k
 
 abbrev μ-loop : tie.MeasureT-loop
-μ-loop pairs seg hash digest first count k₀ k = count - k
+μ-loop pairs seg hash digest first count head k₀ k = count - k
 
 known : (c : tie.After-of Inv-loop μ-loop) → Readable (c .before .before .before .before .args .pairs .now) (c .before .before .before .before .args .seg .now) (c .of .result)
 known c = readable _ _ _ (c .of .ensures) (c .before .before .before .before .pre)
@@ -21,12 +21,12 @@ hit : tie.Need-returns Inv-loop μ-loop
 hit c =
     let at = c .before .before .before in
     let loop = at .before .before in
-    search-hit _ _ _ _ _ _ (loop .before .of .ensures) _ (at .key-is .ensures) _ _ (loop .loop .inv .1) (c .before .before .if1 .taken) (omega arith) (c .before .at .ensures) (c .found .ensures)
+    search-hit _ _ _ _ _ (loop .before .of .ensures) _ (at .key-is .ensures) _ _ (loop .loop .inv .1) (c .before .before .if1 .taken) (omega arith) (c .before .at .ensures) (c .found .ensures)
 
 more : tie.Need-loop-again Inv-loop μ-loop
 more c =
     let loop = c .before .before .before in
-    (omega arith, search-more _ _ _ _ _ _ (loop .before .of .ensures) _ (c .before .key-is .ensures) (loop .loop .inv .1) (c .if1 .left))
+    (omega arith, search-more _ _ _ _ _ (loop .before .of .ensures) _ (c .before .key-is .ensures) (loop .loop .inv .1) (c .if1 .left))
 
 ends : tie.Need-returns-2 Inv-loop μ-loop
 ends c = search-done _ _ _ _ (c .before .before .of .ensures) (c .before .loop .inv .1) (omega arith) (omega arith)

@@ -18,9 +18,9 @@ look-up-spec =
     tie.close
     (tie.spec
     (λ c κs. search needs)
-    (λ c. table-bad _ _ _ _ (was-false (c .before .good2 .ensures) (c .if1 .taken)))
+    (λ c. table-bad _ _ _ (was-false (c .before .good2 .ensures) (c .if1 .taken)))
     (λ c κs. sized _ (good c))
     (λ c. in-front _ _ (c .copied .ensures) _ (omega arith))
     (λ c. front-long _ _ (c .before .copied .ensures) _ (omega arith))
     (λ c κs. search needs)
-    (λ c. table-good _ _ _ _ _ (good (c .before .before .before)) (front-is _ _ (c .before .before .copied .ensures)) (c .look-up-under .ensures)))
+    (λ c. table-good _ _ _ _ (good (c .before .before .before)) (front-is _ _ (c .before .before .copied .ensures)) (c .look-up-under .ensures)))

@@ -10,16 +10,16 @@ look-up-under-spec =
     tie.close
     (tie.spec
     (λ c κs. search needs)
-    (λ c. unknown-key _ _ _ _ _ (c .before .allows .ensures) (c .if1 .taken))
+    (λ c. unknown-key _ _ _ _ (c .before .allows .ensures) (c .if1 .taken))
     (λ c κs. search needs)
     (λ c. search needs)
     (λ c.
     let said = c .before .before .before in
     let at = said .before in
-    segment-stop _ _ _ _ _ (at .before .allows .ensures) (at .if1 .left) _ (sym (said .check-segment .ensures) ∙ c .before .r .given .1))
+    segment-stop _ _ _ _ (at .before .allows .ensures) (at .if1 .left) _ (sym (said .check-segment .ensures) ∙ c .before .r .given .1))
     (λ c. search needs)
     (λ c κs. sym (c .before .before .check-segment .ensures) ∙ c .enum-told .given .1)
     (λ c.
     let said = c .before .before .before in
     let at = said .before in
-    segment-pass _ _ _ _ _ (at .before .allows .ensures) (at .if1 .left) (sym (said .check-segment .ensures) ∙ c .before .enum-told .given .1) (c .find .ensures)))
+    segment-pass _ _ _ _ (at .before .allows .ensures) (at .if1 .left) (sym (said .check-segment .ensures) ∙ c .before .enum-told .given .1) (c .find .ensures)))

@@ -21,4 +21,4 @@ asl-look-up-spec =
     (λ c κs. search needs)
     (λ c κs. reply-long _ (c .before .before .in-numbers .ensures))
     (λ c. search needs)
-    (λ c. let at = c .before .before in looked-up _ _ _ (known (at .before .before .before .before .before .before)) _ _ _ _ (at .before .before .before .before .look-up .ensures) _ _ _ _ _ (at .before .before .before .in-numbers .ensures) (at .leave .ensures)))
+    (λ c. let at = c .before .before in looked-up _ _ _ (known (at .before .before .before .before .before .before)) _ _ _ (at .before .before .before .before .look-up .ensures) _ _ _ _ _ (at .before .before .before .in-numbers .ensures) (at .leave .ensures)))
