@@ -22,7 +22,8 @@ use Rattle.list_place.specs.declared.Place.the-variants.{RecordCount, RecordLin
 use Rattle.list_line.specs.declared.Stop.{Stop}
 use Rattle.list_place.specs.Pieces.{Piece, piece, recordPiece, extentPiece, rowPiece, pieceAt}
 use Rattle.list_line.specs.Stopped.{Listable, Stopped}
-use Rattle.list_line.proofs.ListedRows.{rows-long, rows-past, rows-here, extents-past, extents-here, record-known, record-extents, record-count, record-line}
+use Rattle.list_line.proofs.ListedRows.{rows-long, rows-past, rows-here, record-known, record-extents, record-count, record-line}
+use Rattle.segment.proofs.Extents.{extents-past, extents-here}
 
 -- a piece by another name
 stopped : {m n : ℕ} {p q : Piece} {s t : List ℕ} {at : ℕ} {e : Stop} → Stopped m p s at t e → p ≡ q → m ≤ n → Stopped n q s at t e

@@ -10,12 +10,12 @@ use lib.ListN.{length, take, drop, drop-of-length-le}
 use Rattle.segment.specs.declared.header.Header.{Header}
 use Rattle.segment.specs.declared.record.Record.{Record}
 use Rattle.segment.specs.declared.extent.Extent.{Extent}
-use Rattle.segment.specs.Format.{v3, recordOf, recordNo, extentOf, extentsAt, recordCount, recordsOffset}
+use Rattle.segment.specs.Format.{v3, recordOf, recordNo, extentsAt, recordCount, recordsOffset}
 use Rattle.segment.specs.Check.{isGone, sumLengths, digestIn}
 use Rattle.segment.specs.Meaning.{gone, live, Row, rowExtents, rowOf, rowNo, rowsOf}
 use Rattle.lists.specs.Lists.{countFrom}
 use Rattle.lists.proofs.Counted.{counted-long}
-use Rattle.form_laws.proofs.Meanings.{extents-counted}
+use Rattle.segment.proofs.Extents.{extents-counted}
 use Rattle.key.specs.declared.Kind.the-variants.{Records}
 use Rattle.key.specs.Items.{Stands, itemSpan, recordSpan}
 use Rattle.put_item.specs.Lines.{recordEntry, itemEntry, itemExtents, Held, itemTotal, extentsOfEntry, Line}
@@ -44,18 +44,6 @@ module _ (s : List ℕ) (h : Header) where
   pub rows-here : (k : ℕ) → k < recordCount h → drop k (rowsOf v3 s h) ≡ rowNo v3 s h k ∷ drop (suc k) (rowsOf v3 s h)
   unfolding rowsOf
   rows-here k l = counted-here (rowNo v3 s h) k 0 (recordCount h) l ∙ ap (λ (i : ℕ). rowNo v3 s h i ∷ drop (suc k) (map (rowNo v3 s h) (countFrom 0 (recordCount h)))) (omega arith)
-
--- ---- the extents
-
-pub extents-past : (s : List ℕ) (at n j : ℕ) → n ≤ j → drop j (extentsAt s at n) ≡ []
-extents-past s at n j l = drop-of-length-le (extentsAt s at n) {i = j} (omega (arith, extents-counted s at n))
-
-pub extents-here : (s : List ℕ) (at n j : ℕ) → j < n → drop j (extentsAt s at n) ≡ extentOf s (at + 16 * j) ∷ drop (suc j) (extentsAt s at n)
-unfolding extentsAt
-extents-here s at zero j l = absurd (not-suc-le-zero l)
-extents-here s at (suc n) zero l = ap (λ (i : ℕ). extentOf s i ∷ extentsAt s (at + 16) n) (omega arith)
-extents-here s at (suc n) (suc j) l =
-    extents-here s (at + 16) n j (omega arith) ∙ ap (λ (i : ℕ). extentOf s i ∷ drop (suc j) (extentsAt s (at + 16) n)) (omega arith)
 
 -- a part is no longer than it was asked to be
 pub part-short : (n : ℕ) (xs : List ℕ) → length (take n xs) ≤ n

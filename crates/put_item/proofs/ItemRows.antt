@@ -21,7 +21,7 @@ use Rattle.segment.specs.Tidy.{importedOf, domainOf, flagsOf, extentsPlace, rec
 use Rattle.segment.specs.Write.{entryNo, extentsFrom}
 use Rattle.segment.proofs.ListedExtents.{listed-counted}
 use Rattle.segment.proofs.Sources.{imported-again, source-again}
-use Rattle.form_laws.proofs.Meanings.{extents-counted}
+use Rattle.segment.proofs.Extents.{extents-counted}
 use Rattle.key.specs.declared.Kind.{Kind}
 use Rattle.key.specs.declared.Kind.the-variants.{Records, Entries}
 use Rattle.key.specs.Items.{recordSpan, entrySpan, itemHash, itemSpan, itemDigest, itemKey, Item}
