@@ -5,8 +5,6 @@ use mathlib.Core.Path.{_≡_, _∙_}
 use mathlib.Core.Bool.{true, false}
 use mathlib.Core.List.{List, _∷_}
 use native.Mathlib.Omega.{arith}
-use borrow.Author.Tests.{ne-eqb, leb-true}
-use lib.Dec.{eqb, leb}
 use Rattle.numbers.specs.Numbers.{numAt}
 use Rattle.answer.specs.declared.Refusal.{Refusal}
 use Rattle.answer.specs.declared.Rule.the-variants.{Extents, Total}
@@ -14,7 +12,6 @@ use Rattle.answer.specs.Answers.{refusal}
 use Rattle.answer.specs.declared.Verdict.{Verdict}
 use Rattle.answer.specs.declared.Verdict.the-variants.{Accepted, Refused}
 use Rattle.lists.proofs.Tests.{tests, by-test}
-use Rattle.answer.proofs.Order.{held, must-accepted}
 use Rattle.segment.specs.declared.header.Header.{Header}
 use Rattle.segment.specs.declared.record.Record.{Record}
 use Rattle.segment.specs.declared.extent.Extent.{Extent}
@@ -183,23 +180,6 @@ module _ (s : List ℕ) (r : Record) (k : ℕ) where
       pub total-accepted : sum ≤ 4294967295 → sum ≡ r .«total_length» → Accepted ≡ totalVerdict v3 s r k
       unfolding totalVerdict liveTotal
       total-accepted a b = rw (all-fit (extentsIn s r) sum e, sum-is (extentsIn s r) sum e) (simp tests)
-
--- the extents of a record that is not gone, and has passed 9, lie in the section
-live-end : (h : Header) (r : Record) (k : ℕ) → liveExtents h r k ≡ Accepted
-    → r .«extents_offset» .0 + 16 * r .«extent_count» ≤ extentsOffset h + 16 * extentCount h
-unfolding liveExtents
-live-end h r k e =
-    let at = r .«extents_offset» .0 in
-    let end = extentsOffset h + 16 * extentCount h in
-    let a = held (leb 1 (r .«extent_count»)) (refusal Extents k) _ e in
-    let b = held (leb (extentsOffset h) at) (refusal Extents k) _ (a .1) in
-    let c = held (eqb ((at - extentsOffset h) % 16) 0) (refusal Extents k) _ (b .1) in
-    leb-true (at + 16 * r .«extent_count») end (must-accepted (leb (at + 16 * r .«extent_count») end) (refusal Extents k) .0 (c .1))
-
-pub live-inside : (h : Header) (r : Record) (k : ℕ) → (r .flags ≡ 1 → ⊥) → extentsVerdict h r k ≡ Accepted
-    → r .«extents_offset» .0 + 16 * r .«extent_count» ≤ extentsOffset h + 16 * extentCount h
-unfolding extentsVerdict
-live-inside h r k g e = live-end h r k (rw (ne-eqb (r .flags) 1 g) at e)
 
 -- ---- 9, and then 10
 
