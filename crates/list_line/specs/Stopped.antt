@@ -3,7 +3,7 @@
 -- Assumes nothing: these are definitions.
 use Prim.Native.Nat.{ℕ}
 use mathlib.Core.Path.{_≡_}
-use mathlib.Core.List.{List, []}
+use mathlib.Core.List.{List}
 use Rattle.list_digits.specs.Digits.{Appended}
 use Rattle.list_place.specs.Pieces.{Piece}
 use Rattle.list_line.specs.declared.Stop.{Stop}

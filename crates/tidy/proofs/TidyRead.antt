@@ -1,9 +1,9 @@
--- A segment that is accepted: each of its records may be written, and its tidy form is that of its records.
+-- A segment that can be read: each of its records may be written, and its tidy form is that of its records.
 -- Assumes nothing.
 use Prim.Native.Nat.{ℕ, _+_, _-_, _*_, _≤_, _<_}
 use mathlib.Core.Path.{_≡_, refl, sym, ap, _∙_}
 use mathlib.Core.Bool.{true, false}
-use mathlib.Core.List.{List, []}
+use mathlib.Core.List.{List}
 use native.Mathlib.Omega.{arith}
 use lib.ListN.{length, take, drop}
 use Rattle.numbers.specs.Numbers.{Bytes}
@@ -35,7 +35,6 @@ module _ (s : List ℕ) (h : Header) (v : Readable v3 s h) where
   unfolding itemEntry recordEntry Held itemTotal extentsOfEntry itemExtents recordNo recordOf
   record-line b list extents k l =
       let r = v .each k l in
-      let at : ℕ = recordsOffset h + 48 * k in
       record {
         counted = record {
           item = items s list h v .each k l;
@@ -44,16 +43,16 @@ module _ (s : List ℕ) (h : Header) (v : Readable v3 s h) where
             digest = r .short;
             visibility = r .marks .visibility;
             imported = r .marks .imported;
-            source = num-fits 4 s (at + 40) b;
+            source = num-fits 4 s (recordsOffset h + 48 * k + 40) b;
             gone = r .marks .flags;
-            extents = num-fits 4 s (at + 24) b;
+            extents = omega (arith, r .extents, v .laid .most);
           };
         };
         source = r .marks .source;
         none = r .none;
         held = r .extents;
         total = r .total;
-        fits = let t = num-fits 4 s (at + 28) b in omega arith;
+        fits = omega (arith, r .limit);
       }
 
   pub read-lines : Bytes s → (list extents : List ℕ) → AllLines (Records (recordsOffset h)) s list extents (recordCount h)
