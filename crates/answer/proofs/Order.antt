@@ -43,11 +43,6 @@ pub then-refused : (a b : Verdict) (r : Refusal) → (a then b) ≡ Refused r �
 then-refused Accepted b r = (λ e. inr (refl, e), ⊎-elim (λ e. cc) (λ e. e .1))
 then-refused (Refused q) b r = (λ e. inl e, ⊎-elim (λ e. e) (λ e. cc))
 
--- what an accepted row at the head of a table says
-pub held : (b : Bool) (r : Refusal) (v : Verdict) → (must b r then v) ≡ Accepted → (b ≡ true) × (v ≡ Accepted)
-held true r v e = (refl, e)
-held false r v e = (cc, cc)
-
 -- ---- the first refusal over a run
 
 pub first-none : (f : ℕ → Verdict) → firstOver 0 f ≡ Accepted

@@ -3,3 +3,4 @@ pub mod TablesHeader
 pub mod TablesRecord
 pub mod TablesVisibility
 pub mod Book
+pub mod Readable

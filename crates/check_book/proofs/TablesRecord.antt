@@ -54,12 +54,20 @@ module _ (h : Header) (r : Record) (k : ℕ) where
         λ m. (m .reserved, (m .reservedLast, (m .flags, (m .visibility, (m .imported, (λ n. m .source (omega arith), m .domain)))))),
       )
 
+  pub marks-refuses : ¬ MarksMeet h r → marksVerdict h r k ≡ Refused (refusal RecordWrong k)
+  unfolding marksVerdict
+  marks-refuses = broken (search only-rows depth 9) marks-book
+
 -- ---- 8
 
 module _ (pairs : List ℕ) (h : Header) (r : Record) (k : ℕ) where
   pub digest-book : digestVerdict pairs h r k ≡ Accepted ↔ DigestMeets pairs h r
   unfolding digestVerdict
   digest-book = simp rows (λ a. search, λ m. search)
+
+  pub digest-refuses : ¬ DigestMeets pairs h r → digestVerdict pairs h r k ≡ Refused (refusal Digest k)
+  unfolding digestVerdict
+  digest-refuses = broken (search only-rows) digest-book
 
 -- ---- 9
 
@@ -79,10 +87,15 @@ live-book : (h : Header) (r : Record) (k : ℕ) → liveExtents h r k ≡ Accept
 unfolding liveExtents
 live-book h r k = simp rows (omega arith)
 
-pub extents-book : (h : Header) (r : Record) (k : ℕ) → extentsVerdict h r k ≡ Accepted ↔ ExtentsMeet h r
-unfolding extentsVerdict
-extents-book h r k =
-    Iff·trans (by-gone r (gone-book r k) (live-book h r k)) (λ a. record { gone = a .0; live = a .1 }, λ m. (m .gone, m .live))
+module _ (h : Header) (r : Record) (k : ℕ) where
+  pub extents-book : extentsVerdict h r k ≡ Accepted ↔ ExtentsMeet h r
+  unfolding extentsVerdict
+  extents-book =
+      Iff·trans (by-gone r (gone-book r k) (live-book h r k)) (λ a. record { gone = a .0; live = a .1 }, λ m. (m .gone, m .live))
+
+  pub extents-refuses : ¬ ExtentsMeet h r → extentsVerdict h r k ≡ Refused (refusal Extents k)
+  unfolding extentsVerdict goneExtents liveExtents
+  extents-refuses = broken (search only-rows depth 7) extents-book
 
 -- ---- 10
 
@@ -138,24 +151,18 @@ record-book sh pairs s h k =
 -- which of them is the first that is broken
 module _ (sh : Shape) (pairs s : List ℕ) (h : Header) (r : Record) (k : ℕ) where
   pub marks-broken : ¬ MarksMeet h r → recordRules sh pairs s h r k ≡ Refused (refusal RecordWrong k)
-  unfolding recordRules marksVerdict
-  marks-broken n =
-      let e : marksVerdict h r k ≡ Refused (refusal RecordWrong k) = broken (search only-rows depth 9) (marks-book h r k) n in
-      rw e
+  unfolding recordRules
+  marks-broken n = rw (marks-refuses h r k n)
 
   module _ (m : MarksMeet h r) where
     pub digest-broken : ¬ DigestMeets pairs h r → recordRules sh pairs s h r k ≡ Refused (refusal Digest k)
-    unfolding recordRules digestVerdict
-    digest-broken n =
-        let e : digestVerdict pairs h r k ≡ Refused (refusal Digest k) = broken (search only-rows) (digest-book pairs h r k) n in
-        rw (marks-book h r k .1 m, e)
+    unfolding recordRules
+    digest-broken n = rw (marks-book h r k .1 m, digest-refuses pairs h r k n)
 
     module _ (d : DigestMeets pairs h r) where
       pub extents-broken : ¬ ExtentsMeet h r → recordRules sh pairs s h r k ≡ Refused (refusal Extents k)
-      unfolding recordRules extentsVerdict goneExtents liveExtents
-      extents-broken n =
-          let e : extentsVerdict h r k ≡ Refused (refusal Extents k) = broken (search only-rows depth 7) (extents-book h r k) n in
-          rw (marks-book h r k .1 m, digest-book pairs h r k .1 d, e)
+      unfolding recordRules
+      extents-broken n = rw (marks-book h r k .1 m, digest-book pairs h r k .1 d, extents-refuses h r k n)
 
       pub total-broken : ExtentsMeet h r → ¬ TotalMeets sh s r → recordRules sh pairs s h r k ≡ Refused (refusal Total k)
       unfolding recordRules totalVerdict liveTotal

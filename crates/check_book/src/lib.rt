@@ -1,1 +1,1 @@
-// No code: the rule book and the table of rules in order, and that they say the same.
+// No code: the rule book and the table of rules in order, that they say the same, and what a segment that meets them gives its reader.

@@ -1,12 +1,10 @@
--- The rows of a record's tables, 9 and 10, and the sum over its extents. Each premise is as the code's test or call leaves it.
+-- The rows of a record's tables, 9 by the rule book and 10, and the sum over its extents. Each premise is as the code's test or call leaves it.
 -- Assumes nothing.
 use Prim.Native.Nat.{ℕ, suc, _+_, _-_, _*_, _%_, _≤_, _<_}
-use mathlib.Core.Path.{_≡_, _∙_}
+use mathlib.Core.Path.{_≡_, sym, _∙_}
 use mathlib.Core.Bool.{true, false}
 use mathlib.Core.List.{List, _∷_}
 use native.Mathlib.Omega.{arith}
-use borrow.Author.Tests.{ne-eqb, leb-true}
-use lib.Dec.{eqb, leb}
 use Rattle.numbers.specs.Numbers.{numAt}
 use Rattle.answer.specs.declared.Refusal.{Refusal}
 use Rattle.answer.specs.declared.Rule.the-variants.{Extents, Total}
@@ -14,68 +12,54 @@ use Rattle.answer.specs.Answers.{refusal}
 use Rattle.answer.specs.declared.Verdict.{Verdict}
 use Rattle.answer.specs.declared.Verdict.the-variants.{Accepted, Refused}
 use Rattle.lists.proofs.Tests.{tests, by-test}
-use Rattle.answer.proofs.Order.{held, must-accepted}
 use Rattle.segment.specs.declared.header.Header.{Header}
 use Rattle.segment.specs.declared.record.Record.{Record}
 use Rattle.segment.specs.declared.extent.Extent.{Extent}
 use Rattle.segment.specs.Format.{v3, extentsOffset, extentCount, extentOf, extentsAt, extentsIn}
-use Rattle.segment.specs.Check.{allFit, sumLengths, goneExtents, liveExtents, extentsVerdict, liveTotal, totalVerdict}
+use Rattle.segment.specs.Check.{allFit, sumLengths, extentsVerdict, liveTotal, totalVerdict}
+use Rattle.segment.specs.Meets.{ExtentsMeet}
+use Rattle.check_book.proofs.TablesRecord.{extents-book, extents-refuses}
 use Rattle.check_extents.specs.declared.Sum.the-variants.{Of, Past}
 use Rattle.check_extents.specs.ExtentRules.{summed, slicesRules}
 
 -- ---- 9
 
 module _ (h : Header) (r : Record) (k : ℕ) where
+  extents-wrong : ¬ ExtentsMeet h r → Refused (refusal Extents k) ≡ extentsVerdict h r k
+  extents-wrong n = sym (extents-refuses h r k n)
+
   module _ (g : r .flags ≡ 1) where
     pub gone-placed : (r .«extents_offset» .0 ≡ 0 → ⊥) → Refused (refusal Extents k) ≡ extentsVerdict h r k
-    unfolding extentsVerdict goneExtents
-    gone-placed a = simp tests
+    gone-placed n = extents-wrong (λ m. n (m .gone g .offset))
 
-    module _ (a : r .«extents_offset» .0 ≡ 0) where
-      pub gone-some : (r .«extent_count» ≡ 0 → ⊥) → Refused (refusal Extents k) ≡ extentsVerdict h r k
-      unfolding extentsVerdict goneExtents
-      gone-some b = simp tests
+    pub gone-some : (r .«extent_count» ≡ 0 → ⊥) → Refused (refusal Extents k) ≡ extentsVerdict h r k
+    gone-some n = extents-wrong (λ m. n (m .gone g .count))
 
-      pub gone-accepted : r .«extent_count» ≡ 0 → Accepted ≡ extentsVerdict h r k
-      unfolding extentsVerdict goneExtents
-      gone-accepted b = simp tests
+    pub gone-accepted : r .«extents_offset» .0 ≡ 0 → r .«extent_count» ≡ 0 → Accepted ≡ extentsVerdict h r k
+    gone-accepted a b = sym (extents-book h r k .1 (record { gone = λ _. record { offset = a; count = b }; live = λ n. absurd (n g) }))
 
   module _ (g : r .flags ≡ 1 → ⊥) where
     pub live-none : r .«extent_count» < 1 → Refused (refusal Extents k) ≡ extentsVerdict h r k
-    unfolding extentsVerdict liveExtents
-    live-none a = simp tests
+    live-none l = extents-wrong (λ m. omega (arith, m .live g .some))
 
-    module _ (a : 1 ≤ r .«extent_count») where
-      pub live-before : r .«extents_offset» .0 < extentsOffset h → Refused (refusal Extents k) ≡ extentsVerdict h r k
-      unfolding extentsVerdict liveExtents
-      live-before b = simp tests
+    pub live-before : r .«extents_offset» .0 < extentsOffset h → Refused (refusal Extents k) ≡ extentsVerdict h r k
+    live-before l = extents-wrong (λ m. omega (arith, m .live g .starts))
 
-      module _ (b : extentsOffset h ≤ r .«extents_offset» .0) where
-        pub live-between : ((r .«extents_offset» .0 - extentsOffset h) % 16 ≡ 0 → ⊥) → Refused (refusal Extents k) ≡ extentsVerdict h r k
-        unfolding extentsVerdict liveExtents
-        live-between c = simp tests
+    pub live-between : ((r .«extents_offset» .0 - extentsOffset h) % 16 ≡ 0 → ⊥) → Refused (refusal Extents k) ≡ extentsVerdict h r k
+    live-between n = extents-wrong (λ m. n (m .live g .aligned))
 
-        module _ (c : (r .«extents_offset» .0 - extentsOffset h) % 16 ≡ 0) where
-          pub live-after : extentsOffset h + 16 * extentCount h < r .«extents_offset» .0 → Refused (refusal Extents k) ≡ extentsVerdict h r k
-          unfolding extentsVerdict liveExtents
-          live-after d =
-              let past : extentsOffset h + 16 * extentCount h < r .«extents_offset» .0 + 16 * r .«extent_count» = omega arith in
-              simp tests
+    pub live-after : extentsOffset h + 16 * extentCount h < r .«extents_offset» .0 → Refused (refusal Extents k) ≡ extentsVerdict h r k
+    live-after l = extents-wrong (λ m. omega (arith, m .live g .ends))
 
-          module _ (d : r .«extents_offset» .0 ≤ extentsOffset h + 16 * extentCount h) where
-            pub live-past : extentsOffset h + 16 * extentCount h - r .«extents_offset» .0 < 16 * r .«extent_count»
-                → Refused (refusal Extents k) ≡ extentsVerdict h r k
-            unfolding extentsVerdict liveExtents
-            live-past e =
-                let past : extentsOffset h + 16 * extentCount h < r .«extents_offset» .0 + 16 * r .«extent_count» = omega arith in
-                simp tests
+    module _ (d : r .«extents_offset» .0 ≤ extentsOffset h + 16 * extentCount h) where
+      pub live-past : extentsOffset h + 16 * extentCount h - r .«extents_offset» .0 < 16 * r .«extent_count»
+          → Refused (refusal Extents k) ≡ extentsVerdict h r k
+      live-past l = extents-wrong (λ m. omega (arith, m .live g .ends))
 
-            pub live-accepted : 16 * r .«extent_count» ≤ extentsOffset h + 16 * extentCount h - r .«extents_offset» .0
-                → Accepted ≡ extentsVerdict h r k
-            unfolding extentsVerdict liveExtents
-            live-accepted e =
-                let within : r .«extents_offset» .0 + 16 * r .«extent_count» ≤ extentsOffset h + 16 * extentCount h = omega arith in
-                simp tests
+      pub live-accepted : 1 ≤ r .«extent_count» → extentsOffset h ≤ r .«extents_offset» .0 → (r .«extents_offset» .0 - extentsOffset h) % 16 ≡ 0
+          → 16 * r .«extent_count» ≤ extentsOffset h + 16 * extentCount h - r .«extents_offset» .0 → Accepted ≡ extentsVerdict h r k
+      live-accepted a b c l =
+          sym (extents-book h r k .1 (record { gone = λ y. absurd (g y); live = λ _. record { some = a; starts = b; aligned = c; ends = omega arith } }))
 
 pub ruleset extents-rows = (
   gone-placed,
@@ -183,23 +167,6 @@ module _ (s : List ℕ) (r : Record) (k : ℕ) where
       pub total-accepted : sum ≤ 4294967295 → sum ≡ r .«total_length» → Accepted ≡ totalVerdict v3 s r k
       unfolding totalVerdict liveTotal
       total-accepted a b = rw (all-fit (extentsIn s r) sum e, sum-is (extentsIn s r) sum e) (simp tests)
-
--- the extents of a record that is not gone, and has passed 9, lie in the section
-live-end : (h : Header) (r : Record) (k : ℕ) → liveExtents h r k ≡ Accepted
-    → r .«extents_offset» .0 + 16 * r .«extent_count» ≤ extentsOffset h + 16 * extentCount h
-unfolding liveExtents
-live-end h r k e =
-    let at = r .«extents_offset» .0 in
-    let end = extentsOffset h + 16 * extentCount h in
-    let a = held (leb 1 (r .«extent_count»)) (refusal Extents k) _ e in
-    let b = held (leb (extentsOffset h) at) (refusal Extents k) _ (a .1) in
-    let c = held (eqb ((at - extentsOffset h) % 16) 0) (refusal Extents k) _ (b .1) in
-    leb-true (at + 16 * r .«extent_count») end (must-accepted (leb (at + 16 * r .«extent_count») end) (refusal Extents k) .0 (c .1))
-
-pub live-inside : (h : Header) (r : Record) (k : ℕ) → (r .flags ≡ 1 → ⊥) → extentsVerdict h r k ≡ Accepted
-    → r .«extents_offset» .0 + 16 * r .«extent_count» ≤ extentsOffset h + 16 * extentCount h
-unfolding extentsVerdict
-live-inside h r k g e = live-end h r k (rw (ne-eqb (r .flags) 1 g) at e)
 
 -- ---- 9, and then 10
 

@@ -5,7 +5,7 @@ ghost use lib.ListN.{length};
 ghost use Rattle.answer.specs.declared.Verdict.the-variants.{Accepted};
 ghost use Rattle.segment.specs.Format.{v3, extentsAt};
 ghost use Rattle.segment.specs.Check.{extentsVerdict, totalVerdict};
-ghost use Rattle.check_header.specs.HeaderRules.{Laid};
+ghost use Rattle.check_book.specs.Readable.{Laid};
 ghost use Rattle.check_extents.specs.ExtentRules.{summed, slicesRules};
 use answer::Refusal;
 use answer::Rule;
@@ -41,7 +41,7 @@ fn sum_extents(seg: &[u8], at: usize, count: usize) -> Sum
 }
 
 fn check_extents(seg: &[u8], h: Header, r: Record, place: u64) -> Verdict
-    requires { ⌜ Laid (now seg) h ⌝ }
+    requires { ⌜ Laid v3 (now seg) h ⌝ }
     ensures { λ v. ⌜ v ≡ extentsVerdict h r place ⌝ }
 {
     let at = r.extents_offset.0;
@@ -76,7 +76,7 @@ fn check_extents(seg: &[u8], h: Header, r: Record, place: u64) -> Verdict
 }
 
 fn check_total(seg: &[u8], h: Header, r: Record, place: u64) -> Verdict
-    requires { ⌜ Laid (now seg) h ⌝ }
+    requires { ⌜ Laid v3 (now seg) h ⌝ }
     requires { ⌜ extentsVerdict h r place ≡ Accepted ⌝ }
     ensures { λ v. ⌜ v ≡ totalVerdict v3 (now (seg .entry)) r place ⌝ }
 {
@@ -104,7 +104,7 @@ fn check_total(seg: &[u8], h: Header, r: Record, place: u64) -> Verdict
 
 // 9 and 10.
 pub fn check_slices(seg: &[u8], h: Header, r: Record, place: u64) -> Verdict
-    requires { ⌜ Laid (now seg) h ⌝ }
+    requires { ⌜ Laid v3 (now seg) h ⌝ }
     ensures { λ v. ⌜ v ≡ slicesRules (now (seg .entry)) h r place ⌝ }
 {
     match check_extents(seg, h, r, place) {

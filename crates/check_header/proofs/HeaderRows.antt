@@ -1,5 +1,5 @@
--- The rows of the header's tables: which verdict there is where the rules above a row hold and that row's rule does not. Each premise is as the
--- code's test or call leaves it.
+-- The rows of the header's tables: which verdict there is where a row's rule is broken, and where all are kept; by the rule book, and for the layout
+-- by the rows above it. Each premise is as the code's test or call leaves it.
 -- Assumes nothing.
 use Prim.Native.Nat.{ℕ, _+_, _-_, _*_, _/_, _%_, _≤_, _<_}
 use mathlib.Core.Path.{_≡_, sym, _∙_}
@@ -18,47 +18,41 @@ use Rattle.lists.proofs.Tests.{tests, by-test, was-true, was-false}
 use Rattle.segment.specs.declared.header.Header.{Header}
 use Rattle.segment.specs.Format.{v3, recordCount, recordsOffset, bloomOffset, bloomSize, digestsOffset, digestsSize, extentsOffset, extentCount, footerOf}
 use Rattle.segment.specs.Check.{headVerdict, bloomPlace, layoutVerdict, checksumVerdict}
+use Rattle.segment.specs.Meets.{HeaderMeets}
+use Rattle.check_book.proofs.TablesHeader.{magic-broken, version-broken, header-book, header-broken}
 
 -- ---- 2, 3 and 4
 
 module _ (h : Header) where
   pub head-magic : (h .magic ≡ 0x3330_5844_494C_5341 → ⊥) → Refused (refusal Magic 0) ≡ headVerdict v3 h
-  unfolding headVerdict
-  head-magic m = simp tests
+  head-magic n = sym (magic-broken v3 h n)
 
   module _ (m : h .magic ≡ 0x3330_5844_494C_5341) where
     pub head-version : (h .version ≡ 3 → ⊥) → Refused (refusal Version 0) ≡ headVerdict v3 h
-    unfolding headVerdict
-    head-version v = simp tests
+    head-version n = sym (version-broken v3 h m n)
 
     module _ (v : h .version ≡ 3) where
+      header-wrong : ¬ HeaderMeets h → Refused (refusal HeaderWrong 0) ≡ headVerdict v3 h
+      header-wrong n = sym (header-broken v3 h m v n)
+
       pub head-size : (h .«header_size» ≡ 112 → ⊥) → Refused (refusal HeaderWrong 0) ≡ headVerdict v3 h
-      unfolding headVerdict
-      head-size z = simp tests
+      head-size n = header-wrong (λ k. n (k .size))
 
-      module _ (z : h .«header_size» ≡ 112) where
-        pub head-federation : (h .federation ≡ 0 → ⊥) → Refused (refusal HeaderWrong 0) ≡ headVerdict v3 h
-        unfolding headVerdict
-        head-federation f = simp tests
+      pub head-federation : (h .federation ≡ 0 → ⊥) → Refused (refusal HeaderWrong 0) ≡ headVerdict v3 h
+      head-federation n = header-wrong (λ k. n (k .federation))
 
-        module _ (f : h .federation ≡ 0) where
-          pub head-reserved : (h .reserved ≡ 0 → ⊥) → Refused (refusal HeaderWrong 0) ≡ headVerdict v3 h
-          unfolding headVerdict
-          head-reserved r = simp tests
+      pub head-reserved : (h .reserved ≡ 0 → ⊥) → Refused (refusal HeaderWrong 0) ≡ headVerdict v3 h
+      head-reserved n = header-wrong (λ k. n (k .reserved))
 
-          module _ (r : h .reserved ≡ 0) where
-            pub head-flags : (h .flags ≡ 0 → ⊥) → Refused (refusal HeaderWrong 0) ≡ headVerdict v3 h
-            unfolding headVerdict
-            head-flags g = simp tests
+      pub head-flags : (h .flags ≡ 0 → ⊥) → Refused (refusal HeaderWrong 0) ≡ headVerdict v3 h
+      head-flags n = header-wrong (λ k. n (k .flags))
 
-            module _ (g : h .flags ≡ 0) where
-              pub head-visibility : 1 < h .visibility → Refused (refusal HeaderWrong 0) ≡ headVerdict v3 h
-              unfolding headVerdict
-              head-visibility s = simp tests
+      pub head-visibility : 1 < h .visibility → Refused (refusal HeaderWrong 0) ≡ headVerdict v3 h
+      head-visibility l = header-wrong (λ k. omega (arith, k .visibility))
 
-              pub head-accepted : h .visibility ≤ 1 → Accepted ≡ headVerdict v3 h
-              unfolding headVerdict
-              head-accepted s = simp tests
+      pub head-accepted : h .«header_size» ≡ 112 → h .federation ≡ 0 → h .reserved ≡ 0 → h .flags ≡ 0 → h .visibility ≤ 1 → Accepted ≡ headVerdict v3 h
+      head-accepted z f r g l =
+          sym (header-book v3 h m v .1 (record { size = z; federation = f; reserved = r; flags = g; visibility = l }))
 
 pub ruleset head-rows = (head-magic, head-version, head-size, head-federation, head-reserved, head-flags, head-visibility, head-accepted)
 

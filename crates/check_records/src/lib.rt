@@ -5,7 +5,7 @@ ghost use lib.Dec.{eqb};
 ghost use Prim.Native.Nat.{max};
 ghost use Rattle.segment.specs.Format.{v3};
 ghost use Rattle.segment.specs.Check.{marksVerdict, digestVerdict, recordRules};
-ghost use Rattle.check_header.specs.HeaderRules.{Laid};
+ghost use Rattle.check_book.specs.Readable.{Laid};
 ghost use Rattle.check_records.specs.RecordsPassed.{identityRules, passed};
 use answer::Refusal;
 use answer::Rule;
@@ -57,7 +57,7 @@ fn check_marks(h: Header, r: Record, place: u64) -> Verdict
 }
 
 fn check_digest(pairs: &[u64], seg: &[u8], h: Header, r: Record, place: u64) -> Verdict
-    requires { ⌜ Laid (now seg) h ⌝ }
+    requires { ⌜ Laid v3 (now seg) h ⌝ }
     ensures { λ v. ⌜ v ≡ digestVerdict (now (pairs .entry)) h r place ⌝ }
 {
     let size = r.digest_length as u64;
@@ -80,7 +80,7 @@ fn check_digest(pairs: &[u64], seg: &[u8], h: Header, r: Record, place: u64) -> 
 
 // 7 and 8.
 fn check_identity(pairs: &[u64], seg: &[u8], h: Header, r: Record, place: u64) -> Verdict
-    requires { ⌜ Laid (now seg) h ⌝ }
+    requires { ⌜ Laid v3 (now seg) h ⌝ }
     ensures { λ v. ⌜ v ≡ identityRules (now (pairs .entry)) h r place ⌝ }
 {
     match check_marks(h, r, place) {
@@ -93,7 +93,7 @@ fn check_identity(pairs: &[u64], seg: &[u8], h: Header, r: Record, place: u64) -
 }
 
 fn check_record(pairs: &[u64], seg: &[u8], h: Header, r: Record, place: u64) -> Verdict
-    requires { ⌜ Laid (now seg) h ⌝ }
+    requires { ⌜ Laid v3 (now seg) h ⌝ }
     ensures { λ v. ⌜ v ≡ recordRules v3 (now (pairs .entry)) (now (seg .entry)) h r place ⌝ }
 {
     match check_identity(pairs, seg, h, r, place) {
@@ -119,7 +119,7 @@ fn larger(a: u8, b: u8) -> u8
 }
 
 pub fn check_records(pairs: &[u64], seg: &[u8], h: Header) -> Passed
-    requires { ⌜ Laid (now seg) h ⌝ }
+    requires { ⌜ Laid v3 (now seg) h ⌝ }
     ensures { λ p. ⌜ p ≡ passed (now (pairs .entry)) (now (seg .entry)) h (h .«record_count») ⌝ }
 {
     let count = h.record_count as usize;

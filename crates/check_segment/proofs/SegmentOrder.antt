@@ -1,50 +1,27 @@
 -- How the tables stand in order after the header's, and the whole.
 -- Assumes nothing.
-use Prim.Native.Nat.{ℕ, _+_, _≤_, _<_}
+use Prim.Native.Nat.{ℕ, _≤_, _<_}
 use mathlib.Core.Path.{_≡_, refl, sym, ap, _∙_}
 use mathlib.Core.Bool.{true, false}
 use mathlib.Core.List.{List}
-use native.Mathlib.Omega.{arith}
-use borrow.Author.Tests.{leb-true, eq-eqb, ne-eqb}
-use lib.Dec.{leb}
+use borrow.Author.Tests.{eq-eqb, ne-eqb}
 use lib.ListN.{length}
 use Rattle.answer.specs.declared.Refusal.{Refusal}
-use Rattle.answer.specs.declared.Rule.the-variants.{Size, Digest, Visibility, Table as TableWrong}
+use Rattle.answer.specs.declared.Rule.the-variants.{Size, Visibility, Table as TableWrong}
 use Rattle.answer.specs.declared.Verdict.{Verdict}
 use Rattle.answer.specs.declared.Verdict.the-variants.{Accepted, Refused}
 use Rattle.answer.specs.Rules.{_then_, firstOver}
 use Rattle.answer.specs.Answers.{refusal, checkAnswer}
 use Rattle.lists.proofs.Tests.{tests}
-use Rattle.answer.proofs.Order.{held, must-accepted, then-accepted, then-assoc, first-accepted}
+use Rattle.answer.proofs.Order.{then-assoc}
 use Rattle.segment.specs.declared.header.Header.{Header}
-use Rattle.segment.specs.declared.record.Record.{Record}
-use Rattle.segment.specs.Format.{v3, headerOf, recordNo, recordCount, recordsOffset, digestsOffset, digestsSize}
-use Rattle.table.specs.Table.{goodTable, tableVerdict, allows}
-use Rattle.segment.specs.Check.{
-  sizeVerdict,
-  headVerdict,
-  layoutVerdict,
-  checksumVerdict,
-  segmentRules,
-  segmentVerdict,
-  checked,
-  checkOf,
-  marksVerdict,
-  digestVerdict,
-  recordRules,
-  recordVerdict,
-  largestBelow,
-  visibilityNo,
-  visibilityVerdict,
-  digestIn,
-  keyNo,
-  recordPlace,
-}
+use Rattle.segment.specs.Format.{v3, headerOf, recordNo, recordCount, recordsOffset}
+use Rattle.table.specs.Table.{goodTable, tableVerdict}
+use Rattle.segment.specs.Check.{sizeVerdict, headVerdict, layoutVerdict, checksumVerdict, segmentRules, segmentVerdict, checked, checkOf, recordVerdict, largestBelow, visibilityNo, visibilityVerdict, digestIn, keyNo, recordPlace}
 use Rattle.segment.specs.Keys.{freshKey}
 use Rattle.key.specs.declared.Kind.the-variants.{Records}
-use Rattle.key.specs.Items.{Item, Items, Stands, itemKey, itemHash, itemDigest, itemSpan, itemPlace, recordSpan}
-use Rattle.check_header.specs.HeaderRules.{Laid, headerRules}
-use Rattle.check_header.proofs.HeaderOrder.{laid-of}
+use Rattle.key.specs.Items.{itemKey, itemHash, itemDigest, itemSpan, itemPlace, recordSpan}
+use Rattle.check_header.specs.HeaderRules.{headerRules}
 use Rattle.check_records.specs.declared.Passed.the-variants.{Largest, Refused as NotPassed}
 use Rattle.check_records.specs.RecordsPassed.{passed}
 use Rattle.check_segment.specs.SegmentParts.{contentsVerdict, bodyRules}
@@ -99,37 +76,6 @@ module _ (pairs s : List ℕ) (h : Header) where
   unfolding contentsVerdict every
   contents-stop x e = rw (pass-told x e)
 
--- ---- what the keys' scan is told: each record and its digest can be read
-
-digest-end : (pairs : List ℕ) (h : Header) (r : Record) (k : ℕ) → digestVerdict pairs h r k ≡ Accepted
-    → r .«digest_offset» .0 + r .«digest_length» ≤ digestsOffset h + digestsSize h
-unfolding digestVerdict
-digest-end pairs h r k e =
-    let at = r .«digest_offset» .0 in
-    let end = digestsOffset h + digestsSize h in
-    let a = held (allows pairs (r .«hash_id») (r .«digest_length»)) (refusal Digest k) _ e in
-    let b = held (leb (digestsOffset h) at) (refusal Digest k) _ (a .1) in
-    leb-true (at + r .«digest_length») end (must-accepted (leb (at + r .«digest_length») end) (refusal Digest k) .0 (b .1))
-
-record-digest : (pairs s : List ℕ) (h : Header) (k : ℕ) → recordVerdict v3 pairs s h k ≡ Accepted
-    → digestVerdict pairs h (recordNo v3 s h k) k ≡ Accepted
-unfolding recordVerdict recordRules
-record-digest pairs s h k e =
-    let r = recordNo v3 s h k in
-    let a = then-accepted (marksVerdict h r k) _ .0 e in
-    then-accepted (digestVerdict pairs h r k) _ .0 (a .1) .0
-
-one-stands : (pairs s : List ℕ) (h : Header) (k : ℕ) → Laid s h → k < recordCount h → recordVerdict v3 pairs s h k ≡ Accepted
-    → Item (Records (recordsOffset h)) s pairs k
-unfolding Stands itemSpan recordSpan recordNo
-one-stands pairs s h k l i e =
-    let d = digest-end pairs h (recordNo v3 s h k) k (record-digest pairs s h k e) in
-    record { stands = omega arith; digest = omega (arith, d) }
-
-pub records-stand : (pairs s : List ℕ) (h : Header) → Laid s h → firstOver (recordCount h) (recordVerdict v3 pairs s h) ≡ Accepted
-    → Items (Records (recordsOffset h)) s pairs (recordCount h)
-records-stand pairs s h l e = record { each = λ k i. one-stands pairs s h k l i (first-accepted (recordCount h) (recordVerdict v3 pairs s h) .0 e k i) }
-
 -- ---- the whole
 
 module _ (pairs s : List ℕ) (h : Header) where
@@ -172,40 +118,3 @@ table-bad pairs s e = rw e
 pub table-good : (pairs part s : List ℕ) {v : Verdict} → goodTable pairs ≡ true → part ≡ pairs → v ≡ segmentVerdict v3 part s → checkAnswer v ≡ checkOf pairs s
 unfolding checkOf checked tableVerdict
 table-good pairs part s e p f = rw e (ap checkAnswer (f ∙ ap (λ (q : List ℕ). segmentVerdict v3 q s) p))
-
--- ---- what is known of an accepted segment, for those who read on
-
-pub record Sound (pairs s : List ℕ) : Type 0 where
-  pub long : 136 ≤ length s
-  pub laid : Laid s (headerOf s)
-  pub records : firstOver (recordCount (headerOf s)) (recordVerdict v3 pairs s (headerOf s)) ≡ Accepted
-
-sized-so : (n : ℕ) → sizeVerdict n ≡ Accepted → (136 ≤ n) × (n ≤ 1073741824)
-unfolding sizeVerdict
-sized-so n e =
-    let a = held (leb 136 n) (refusal Size 0) _ e in
-    (leb-true 136 n (a .0), leb-true n 1073741824 (must-accepted (leb n 1073741824) (refusal Size 0) .0 (a .1)))
-
-contents-of : (pairs s : List ℕ) (h : Header) → bodyRules pairs s h ≡ Accepted → firstOver (recordCount h) (recordVerdict v3 pairs s h) ≡ Accepted
-unfolding bodyRules contentsVerdict
-contents-of pairs s h e =
-    let a = then-accepted (checksumVerdict s) (contentsVerdict pairs s h) .0 e .1 in
-    then-accepted (firstOver (recordCount h) (recordVerdict v3 pairs s h)) _ .0 a .0
-
-pub sound-of : (pairs s : List ℕ) → segmentVerdict v3 pairs s ≡ Accepted → Sound pairs s
-unfolding segmentVerdict
-sound-of pairs s e =
-    let a = then-accepted (sizeVerdict (length s)) (segmentRules v3 pairs s (headerOf s)) .0 e in
-    let z = sized-so (length s) (a .0) in
-    let b = then-accepted (headerRules (headerOf s) (length s)) (bodyRules pairs s (headerOf s)) .0 (sym (in-parts pairs s (headerOf s)) ∙ a .1) in
-    record { long = z .0; laid = laid-of s (headerOf s) (b .0) (z .1); records = contents-of pairs s (headerOf s) (b .1) }
-
--- the same of the header that was read, with every record and its digest in reach
-pub record Readable (pairs s : List ℕ) (h : Header) : Type 0 where
-  pub laid : Laid s h
-  pub items : Items (Records (recordsOffset h)) s pairs (recordCount h)
-
-pub readable : (pairs s : List ℕ) (h : Header) → h ≡ headerOf s → segmentVerdict v3 pairs s ≡ Accepted → Readable pairs s h
-readable pairs s h e v =
-    let f = sound-of pairs s v in
-    rw e (record { laid = f .laid; items = records-stand pairs s (headerOf s) (f .laid) (f .records) })

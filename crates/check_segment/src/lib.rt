@@ -5,7 +5,7 @@ ghost use lib.ListN.{length};
 ghost use Rattle.answer.specs.Answers.{checkAnswer};
 ghost use Rattle.segment.specs.Format.{v3};
 ghost use Rattle.segment.specs.Check.{segmentRules, segmentVerdict, checkOf};
-ghost use Rattle.check_header.specs.HeaderRules.{Laid};
+ghost use Rattle.check_book.specs.Readable.{Laid};
 ghost use Rattle.check_segment.specs.SegmentParts.{contentsVerdict, bodyRules};
 use answer::Refusal;
 use answer::Rule;
@@ -22,7 +22,7 @@ const LIMIT: usize = segment::LIMIT as usize;
 
 // Records, visibility and duplicates, of a segment whose header, layout and checksum are right.
 fn check_contents(pairs: &[u64], seg: &[u8], h: Header) -> Verdict
-    requires { ⌜ Laid (now seg) h ⌝ }
+    requires { ⌜ Laid v3 (now seg) h ⌝ }
     ensures { λ r. ⌜ r ≡ contentsVerdict (now (pairs .entry)) (now (seg .entry)) h ⌝ }
 {
     match check_records::check_records(pairs, seg, h) {
@@ -45,7 +45,7 @@ fn check_contents(pairs: &[u64], seg: &[u8], h: Header) -> Verdict
 
 // The checksum, and then the contents.
 fn check_body(pairs: &[u64], seg: &[u8], h: Header) -> Verdict
-    requires { ⌜ Laid (now seg) h ⌝ }
+    requires { ⌜ Laid v3 (now seg) h ⌝ }
     ensures { λ r. ⌜ r ≡ bodyRules (now (pairs .entry)) (now (seg .entry)) h ⌝ }
 {
     match check_header::check_checksum(seg) {

@@ -2,7 +2,7 @@
 -- of their meanings.
 -- Assumes nothing.
 use Prim.Native.Nat.{ℕ, zero, suc, _+_, _-_, _*_, _≤_, _<_}
-use mathlib.Core.Path.{_≡_, refl, ap}
+use mathlib.Core.Path.{_≡_}
 use mathlib.Core.HLevel.{¬-prop}
 use mathlib.Core.Logic.{_≢_}
 use mathlib.Core.List.{List}
@@ -19,17 +19,13 @@ use Rattle.segment.specs.Format.{Shape, blockEnd, headerOf, recordOf, extentOf,
 use Rattle.segment.specs.Check.{isGone, digestIn, keyNo}
 use Rattle.segment.specs.Meets.{LayoutMeets, RecordMeets, LiveMeets, SumMeets, Meets}
 use Rattle.segment.specs.Meaning.{Row, rowKey, rowOf, rowNo, rowsOf, headingOf, meaningOf}
+use Rattle.segment.proofs.Extents.{extents-counted}
 use Rattle.segment.proofs.Sources.{source-fits}
 use Rattle.lists.specs.Lists.{Each}
 use Rattle.form_laws.specs.Form.{ExtentWritable, LiveWritable, Writable, Contents}
 use Rattle.lists.proofs.Counted.{counted-long, each-iff, pairwise-iff}
 
 -- ---- extents
-
-pub extents-counted : (s : List ℕ) (at n : ℕ) → length (extentsAt s at n) ≡ n
-unfolding extentsAt
-extents-counted s at zero = refl
-extents-counted s at (suc n) = ap suc (extents-counted s (at + 16) n)
 
 module _ (s : List ℕ) (b : Bytes s) where
   extents-writable : (at n : ℕ)

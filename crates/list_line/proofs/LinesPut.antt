@@ -13,6 +13,7 @@ use Rattle.segment.specs.Format.{v3, headerOf, recordOf, extentOf, recordCount,
 use Rattle.segment.specs.Meaning.{rowExtents, rowNo, rowsOf, meaningOf}
 use Rattle.segment.specs.Tidy.{extentTotal}
 use Rattle.segment.specs.Listing.{extentsListed}
+use Rattle.check_book.specs.Readable.{Readable}
 use Rattle.list_digits.specs.Digits.{ascii, Appended}
 use Rattle.list_digits.proofs.TextLaws.{retold, nothing}
 use Rattle.list_columns.specs.Listing.{countLine, extentLine}
@@ -21,8 +22,9 @@ use Rattle.list_place.specs.declared.Place.{Place}
 use Rattle.list_place.specs.declared.Place.the-variants.{RecordCount, RecordLine, ExtentCount, ExtentLine, Done}
 use Rattle.list_line.specs.declared.Stop.{Stop}
 use Rattle.list_place.specs.Pieces.{Piece, piece, recordPiece, extentPiece, rowPiece, pieceAt}
-use Rattle.list_line.specs.Stopped.{Listable, Stopped}
-use Rattle.list_line.proofs.ListedRows.{rows-long, rows-past, rows-here, extents-past, extents-here, record-known, record-extents, record-count, record-line}
+use Rattle.list_line.specs.Stopped.{Stopped}
+use Rattle.list_line.proofs.ListedRows.{rows-long, rows-past, rows-here, few-extents, record-extents, record-count, record-line}
+use Rattle.segment.proofs.Extents.{extents-past, extents-here}
 
 -- a piece by another name
 stopped : {m n : ℕ} {p q : Piece} {s t : List ℕ} {at : ℕ} {e : Stop} → Stopped m p s at t e → p ≡ q → m ≤ n → Stopped n q s at t e
@@ -44,7 +46,7 @@ module _ (s : List ℕ) (h : Header) (k : ℕ) (out : List ℕ) (at : ℕ) where
   unfolding recordPiece
   record-past l r = stopped (stays ExtentCount out at r) (sym (ap (recordPiece k) (rows-past s h k l))) (omega arith)
 
-  module _ (v : Listable s h) (l : k < recordCount h) (r : Record) (e : r ≡ recordOf v3 s (recordsOffset h + 48 * k)) where
+  module _ (v : Readable v3 s h) (l : k < recordCount h) (r : Record) (e : r ≡ recordOf v3 s (recordsOffset h + 48 * k)) where
     pub record-put : (after : List ℕ) (stop end : ℕ) → stop ≡ r .«digest_offset» .0 + r .«digest_length»
         → Appended 2169 out at (recordCells k r (take (stop - r .«digest_offset» .0) (drop (r .«digest_offset» .0) s))) after end
         → Stopped 2169 (recordPiece k (drop k (rowsOf v3 s h))) out at after (record { next = RecordLine (k + 1); end = end })
@@ -61,7 +63,7 @@ module _ (s : List ℕ) (h : Header) (k j : ℕ) (out : List ℕ) (at : ℕ) whe
   unfolding rowPiece
   extents-done l r = stopped (stays Done out at r) (sym (ap (rowPiece k j) (rows-past s h k l))) (omega arith)
 
-  module _ (v : Listable s h) (l : k < recordCount h) (r : Record) (e : r ≡ recordOf v3 s (recordsOffset h + 48 * k)) where
+  module _ (v : Readable v3 s h) (l : k < recordCount h) (r : Record) (e : r ≡ recordOf v3 s (recordsOffset h + 48 * k)) where
     here : extentPiece k j (drop j (rowExtents (rowNo v3 s h k))) ≡ rowPiece k j (drop k (rowsOf v3 s h))
     unfolding rowPiece
     here = sym (ap (rowPiece k j) (rows-here s h k l))
@@ -94,14 +96,14 @@ pub record Counting (s : List ℕ) (h : Header) (k sum : ℕ) : Type 0 where
 pub counting-start : (s : List ℕ) → Counting s (headerOf s) 0 0
 counting-start s = record { within = omega arith; small = omega arith; whole = omega arith }
 
-module _ (s : List ℕ) (h : Header) (v : Listable s h) (k sum : ℕ) (c : Counting s (headerOf s) k sum) where
+module _ (s : List ℕ) (h : Header) (v : Readable v3 s h) (k sum : ℕ) (c : Counting s (headerOf s) k sum) where
   pub counting : Counting s h k sum
   counting = subst (λ (x : Header). Counting s x k sum) (sym (v .header)) c
 
   more : (l : k < recordCount h) (r : Record) → r ≡ recordOf v3 s (recordsOffset h + 48 * k) → Counting s h (k + 1) (sum + r .«extent_count»)
   unfolding extentTotal
   more l r e =
-      let n = record-known s h v k l r e .3 in
+      let n = few-extents s h v k l r e in
       let t : extentTotal (drop k (rowsOf v3 s h)) ≡ r .«extent_count» + extentTotal (drop (k + 1) (rowsOf v3 s h)) =
       ap extentTotal (rows-here s h k l) ∙ rw (add-one, record-count s h v k l r e) in
       record { within = omega arith; small = omega (arith, counting .small, n); whole = omega (arith, counting .whole, t) }
@@ -119,7 +121,7 @@ module _ (s : List ℕ) (h : Header) (v : Listable s h) (k sum : ℕ) (c : Count
 
 -- ---- the piece at a place
 
-module _ (s : List ℕ) (h : Header) (v : Listable s h) {out after : List ℕ} {at : ℕ} where
+module _ (s : List ℕ) (h : Header) (v : Readable v3 s h) {out after : List ℕ} {at : ℕ} where
   pub at-record-count : (p : Place) (end : ℕ) → p ≡ RecordCount → Appended 29 out at (countLine (ascii "records") (recordCount h)) after end
       → Stopped 2169 (pieceAt (meaningOf v3 s) p) out at after (record { next = RecordLine 0; end = end })
   unfolding pieceAt meaningOf

@@ -1,7 +1,7 @@
--- The records of a segment that may be listed: where they and what they name lie, and their rows in the meaning.
+-- The records of a segment that can be read: where they and what they name lie, and their rows in the meaning.
 -- Assumes nothing.
 use Prim.Native.Nat.{ℕ, zero, suc, _+_, _-_, _*_, _≤_, _<_}
-use mathlib.Core.Path.{_≡_, refl, sym, ap, _∙_}
+use mathlib.Core.Path.{_≡_, refl, sym, ap, subst, _∙_}
 use mathlib.Core.Bool.{Bool, true, false, cond}
 use mathlib.Core.List.{List, [], _∷_, map, append-assoc}
 use native.Mathlib.Nat.{not-suc-le-zero}
@@ -10,19 +10,15 @@ use lib.ListN.{length, take, drop, drop-of-length-le}
 use Rattle.segment.specs.declared.header.Header.{Header}
 use Rattle.segment.specs.declared.record.Record.{Record}
 use Rattle.segment.specs.declared.extent.Extent.{Extent}
-use Rattle.segment.specs.Format.{v3, recordOf, recordNo, extentOf, extentsAt, recordCount, recordsOffset}
+use Rattle.segment.specs.Format.{v3, recordOf, recordNo, extentsAt, extentsIn, recordCount, recordsOffset}
 use Rattle.segment.specs.Check.{isGone, sumLengths, digestIn}
 use Rattle.segment.specs.Meaning.{gone, live, Row, rowExtents, rowOf, rowNo, rowsOf}
 use Rattle.lists.specs.Lists.{countFrom}
 use Rattle.lists.proofs.Counted.{counted-long}
-use Rattle.form_laws.proofs.Meanings.{extents-counted}
-use Rattle.key.specs.declared.Kind.the-variants.{Records}
-use Rattle.key.specs.Items.{Stands, itemSpan, recordSpan}
-use Rattle.put_item.specs.Lines.{recordEntry, itemEntry, itemExtents, Held, itemTotal, extentsOfEntry, Line}
-use Rattle.put_item.proofs.ItemRows.{row-extents, record-row}
+use Rattle.segment.proofs.Extents.{extents-counted, row-extents}
+use Rattle.check_book.specs.Readable.{RecordReadable, Readable}
 use Rattle.list_columns.specs.Listing.{stateWord, recordLine}
 use Rattle.list_columns.specs.Columns.{goneWord, identityCells, standingCells, recordCells}
-use Rattle.list_line.specs.Stopped.{Listable}
 
 -- ---- the rows
 
@@ -44,18 +40,6 @@ module _ (s : List ℕ) (h : Header) where
   pub rows-here : (k : ℕ) → k < recordCount h → drop k (rowsOf v3 s h) ≡ rowNo v3 s h k ∷ drop (suc k) (rowsOf v3 s h)
   unfolding rowsOf
   rows-here k l = counted-here (rowNo v3 s h) k 0 (recordCount h) l ∙ ap (λ (i : ℕ). rowNo v3 s h i ∷ drop (suc k) (map (rowNo v3 s h) (countFrom 0 (recordCount h)))) (omega arith)
-
--- ---- the extents
-
-pub extents-past : (s : List ℕ) (at n j : ℕ) → n ≤ j → drop j (extentsAt s at n) ≡ []
-extents-past s at n j l = drop-of-length-le (extentsAt s at n) {i = j} (omega (arith, extents-counted s at n))
-
-pub extents-here : (s : List ℕ) (at n j : ℕ) → j < n → drop j (extentsAt s at n) ≡ extentOf s (at + 16 * j) ∷ drop (suc j) (extentsAt s at n)
-unfolding extentsAt
-extents-here s at zero j l = absurd (not-suc-le-zero l)
-extents-here s at (suc n) zero l = ap (λ (i : ℕ). extentOf s i ∷ extentsAt s (at + 16) n) (omega arith)
-extents-here s at (suc n) (suc j) l =
-    extents-here s (at + 16) n j (omega arith) ∙ ap (λ (i : ℕ). extentOf s i ∷ drop (suc j) (extentsAt s (at + 16) n)) (omega arith)
 
 -- a part is no longer than it was asked to be
 pub part-short : (n : ℕ) (xs : List ℕ) → length (take n xs) ≤ n
@@ -80,43 +64,37 @@ line-of k q s t n =
 
 -- ---- a record that was read
 
-module _ (s : List ℕ) (h : Header) (v : Listable s h) (k : ℕ) (l : k < recordCount h) where
-  line : Line (Records (recordsOffset h)) s [] [] k
-  line = v .lines .each k l
-
+module _ (s : List ℕ) (h : Header) (v : Readable v3 s h) (k : ℕ) (l : k < recordCount h) where
   pub record-fits : recordsOffset h + 48 * k + 48 ≤ length s
-  unfolding Stands
-  record-fits = line .counted .item .stands
+  record-fits = omega (arith, v .laid .layout)
 
   module _ (r : Record) (e : r ≡ recordOf v3 s (recordsOffset h + 48 * k)) where
-    pub record-known : (r .«digest_offset» .0 + r .«digest_length» ≤ length s) × (r .«digest_length» ≤ 1024)
-        × (r .«extents_offset» .0 + 16 * r .«extent_count» ≤ length s) × (r .«extent_count» < 4294967296)
-    unfolding itemEntry recordEntry itemSpan recordSpan Held
-    record-known = rw e (line .counted .item .digest, line .counted .narrow .digest, line .held, line .counted .narrow .extents)
+    pub record-known : RecordReadable v3 s h r
+    unfolding recordNo
+    record-known = subst (RecordReadable v3 s h) (sym e) (v .each k l)
+
+    pub few-extents : r .«extent_count» < 4294967296
+    few-extents = omega (arith, record-known .extents, v .laid .most)
 
     is-row : rowOf s r ≡ rowNo v3 s h k
     unfolding rowNo recordNo
     is-row = ap (rowOf s) e
 
-    pub record-extents : rowExtents (rowNo v3 s h k) ≡ extentsAt s (r .«extents_offset» .0) (r .«extent_count»)
-    unfolding extentsOfEntry itemExtents itemEntry recordEntry
-    record-extents =
-        ap rowExtents (sym (record-row s [] [] h k)) ∙ row-extents (Records (recordsOffset h)) s [] [] k line
-        ∙ ap (λ (q : Record). extentsAt s (q .«extents_offset» .0) (q .«extent_count»)) (sym e)
+    own-extents : rowExtents (rowOf s r) ≡ extentsIn s r
+    own-extents = row-extents s r (record-known .none)
 
-    total : sumLengths (rowExtents (rowOf s r)) ≡ r .«total_length»
-    unfolding itemTotal extentsOfEntry itemExtents itemEntry recordEntry
-    total =
-        ap (λ (w : Row). sumLengths (rowExtents w)) is-row ∙ ap sumLengths record-extents
-        ∙ ap (λ (q : Record). sumLengths (extentsAt s (q .«extents_offset» .0) (q .«extent_count»))) e
-        ∙ sym (line .total) ∙ ap (λ (q : Record). q .«total_length») (sym e)
+    own-count : length (rowExtents (rowOf s r)) ≡ r .«extent_count»
+    own-count = ap length own-extents ∙ extents-counted s (r .«extents_offset» .0) (r .«extent_count»)
+
+    pub record-extents : rowExtents (rowNo v3 s h k) ≡ extentsIn s r
+    record-extents = ap rowExtents (sym is-row) ∙ own-extents
 
     pub record-count : length (rowExtents (rowNo v3 s h k)) ≡ r .«extent_count»
-    record-count = ap length record-extents ∙ extents-counted s (r .«extents_offset» .0) (r .«extent_count»)
+    record-count = ap (λ (w : Row). length (rowExtents w)) (sym is-row) ∙ own-count
 
     pub record-line : (stop : ℕ) → stop ≡ r .«digest_offset» .0 + r .«digest_length»
         → recordCells k r (take (stop - r .«digest_offset» .0) (drop (r .«digest_offset» .0) s)) ≡ recordLine k (rowNo v3 s h k)
     unfolding digestIn
     record-line stop p =
         let n : stop - r .«digest_offset» .0 ≡ r .«digest_length» = omega arith in
-        rw n (line-of k r s total (ap (λ (w : Row). length (rowExtents w)) is-row ∙ record-count)) ∙ ap (recordLine k) is-row
+        rw n (line-of k r s (ap sumLengths own-extents ∙ sym (record-known .total)) own-count) ∙ ap (recordLine k) is-row

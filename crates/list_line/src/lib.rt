@@ -5,8 +5,9 @@ ghost use lib.ListN.{length, drop};
 ghost use Rattle.segment.specs.Format.{v3};
 ghost use Rattle.segment.specs.Meaning.{rowsOf, meaningOf};
 ghost use Rattle.segment.specs.Listing.{extentsListed};
+ghost use Rattle.check_book.specs.Readable.{Readable};
 ghost use Rattle.list_place.specs.Pieces.{recordPiece, rowPiece, pieceAt};
-ghost use Rattle.list_line.specs.Stopped.{Listable, Stopped};
+ghost use Rattle.list_line.specs.Stopped.{Stopped};
 use list_place::Place;
 use segment::extent::Extent;
 use segment::header::Header;
@@ -20,7 +21,7 @@ pub struct Stop {
 
 // The sum of the records' extent counts.
 fn count_extents(seg: &[u8], h: Header) -> u64
-    requires { ⌜ Listable (now seg) h ⌝ }
+    requires { ⌜ Readable v3 (now seg) h ⌝ }
     ensures { λ r. ⌜ r ≡ extentsListed (meaningOf v3 (now (seg .entry))) ⌝ }
 {
     let first = h.records_offset.0 as usize;
@@ -37,7 +38,7 @@ fn count_extents(seg: &[u8], h: Header) -> u64
 
 // The line of record k, or nothing behind the last one.
 fn put_record(seg: &[u8], h: Header, k: usize, at: usize, out: &mut [u8]) -> Stop
-    requires { ⌜ Listable (now seg) h ⌝ }
+    requires { ⌜ Readable v3 (now seg) h ⌝ }
     requires { ⌜ at + 2169 ≤ length (now out) ⌝ }
     ensures { λ r. ⌜ Stopped 2169 (recordPiece k (drop k (rowsOf v3 (now (seg .entry)) h))) (now (out .entry)) at (now (out .exit)) r ⌝ }
 {
@@ -60,7 +61,7 @@ fn put_record(seg: &[u8], h: Header, k: usize, at: usize, out: &mut [u8]) -> Sto
 
 // The line of extent j of record k, or nothing behind a record's last one.
 fn put_extent(seg: &[u8], h: Header, k: usize, j: usize, at: usize, out: &mut [u8]) -> Stop
-    requires { ⌜ Listable (now seg) h ⌝ }
+    requires { ⌜ Readable v3 (now seg) h ⌝ }
     requires { ⌜ at + 2169 ≤ length (now out) ⌝ }
     ensures { λ r. ⌜ Stopped 2169 (rowPiece k j (drop k (rowsOf v3 (now (seg .entry)) h))) (now (out .entry)) at (now (out .exit)) r ⌝ }
 {
@@ -88,7 +89,7 @@ fn put_extent(seg: &[u8], h: Header, k: usize, j: usize, at: usize, out: &mut [u
 
 // The piece at a place.
 pub fn put_piece(seg: &[u8], h: Header, place: Place, at: usize, out: &mut [u8]) -> Stop
-    requires { ⌜ Listable (now seg) h ⌝ }
+    requires { ⌜ Readable v3 (now seg) h ⌝ }
     requires { ⌜ at + 2169 ≤ length (now out) ⌝ }
     ensures { λ r. ⌜ Stopped 2169 (pieceAt (meaningOf v3 (now (seg .entry))) place) (now (out .entry)) at (now (out .exit)) r ⌝ }
 {

@@ -1,4 +1,3 @@
-pub mod Checked
 pub mod Fills
 pub mod WholeText
 pub mod Starts

@@ -1,35 +1,17 @@
--- What is written of a segment: one line where it is refused, and otherwise the whole listing, in as many calls as it takes. Case L's listing is
--- the one that document 01 shows.
+-- What is written of a segment: one line where it is refused, and otherwise the whole listing, in as many calls as it takes.
 -- Assumes nothing.
 use Prim.Native.Nat.{ℕ, _≤_, _<_}
-use mathlib.Core.Path.{_≡_, refl, sym}
+use mathlib.Core.Path.{_≡_, sym}
 use mathlib.Core.List.{List, []}
 use lib.ListN.{length}
 use Rattle.answer.specs.declared.Refusal.{Refusal}
 use Rattle.answer.specs.declared.Verdict.the-variants.{Accepted, Refused}
 use Rattle.lists.proofs.Tests.{tests}
-use Rattle.segment.specs.declared.header.Heading.{Heading}
 use Rattle.segment.specs.Format.{v3}
-use Rattle.segment.specs.Check.{checked, sumLengths}
+use Rattle.segment.specs.Check.{checked}
 use Rattle.segment.specs.Meaning.{meaningOf}
-use Rattle.segment.specs.Tidy.{extentTotal}
-use Rattle.theorem_demands.specs.PCases.{caseL}
-use Rattle.list_digits.specs.Digits.{ascii, decimalIn, decimal, hex}
-use Rattle.list_columns.specs.Listing.{
-  last,
-  countLine,
-  recordLine,
-  extentLine,
-  refusalLine,
-  recordLines,
-  extentLines,
-  extentSection,
-  listing,
-  listed,
-  tableListed,
-  mostListed,
-  written,
-}
+use Rattle.list_digits.specs.Digits.{ascii}
+use Rattle.list_columns.specs.Listing.{last, refusalLine, listed, tableListed, mostListed, written}
 use Rattle.list_place.specs.declared.Place.the-variants.{RecordCount}
 use Rattle.list_place.specs.Pieces.{longestLine, piecesFrom, fills}
 use Rattle.list_place.proofs.Pieces.{listing-in-fills}
@@ -51,8 +33,3 @@ written-long s h = simp tests
 pub written-whole : (s : List ℕ) → length s ≤ mostListed → written s ≡ listed tableListed s
 unfolding written
 written-whole s h = simp tests
-
-pub case-l-listed : (t : Heading) → listing (record { heading = t; bloom = []; records = caseL })
-    ≡ ascii "records 2\n0 7 0a0b0c0d live published - 3 1\n1 7 0a0b0c0e gone internal - 0 0\nextents 1\n0 0 9 64 3\n"
-unfolding listing countLine recordLines recordLine extentSection extentLines extentLine decimal decimalIn hex extentTotal sumLengths
-case-l-listed t = refl

@@ -1,12 +1,13 @@
 // Look up: whether a segment has a record with a key, and what that record says. The whole check is made in every call, so that absent means
 // that no record of an accepted segment has the key.
 ghost use mathlib.Core.Path.{_≡_};
-ghost use Rattle.answer.specs.declared.Verdict.the-variants.{Accepted};
+ghost use mathlib.Core.Bool.{true};
 ghost use Rattle.answer.specs.Answers.{foundAnswer};
 ghost use Rattle.segment.specs.Format.{v3, headerOf};
 ghost use Rattle.segment.specs.Keys.{keyFrom};
-ghost use Rattle.segment.specs.Check.{segmentVerdict};
 ghost use Rattle.segment.specs.Meaning.{sourceOf};
+ghost use Rattle.table.specs.Table.{goodTable};
+ghost use Rattle.check_book.specs.Readable.{Readable};
 ghost use Rattle.segment.specs.LookUp.{recordFound, foundIn, foundUnder, lookUpOf};
 use answer::Found;
 use answer::Refusal;
@@ -51,7 +52,7 @@ fn found(r: Record) -> Found
 
 // The record of an accepted segment that has the key, if there is one.
 fn find(pairs: &[u64], seg: &[u8], hash: u64, digest: &[u8]) -> Found
-    requires { ⌜ segmentVerdict v3 (now pairs) (now seg) ≡ Accepted ⌝ }
+    requires { ⌜ Readable v3 (now seg) (headerOf (now seg)) ⌝ }
     ensures { λ r. ⌜ r ≡ foundIn v3 (now (seg .entry)) (headerOf (now (seg .entry))) (keyFrom hash (now (digest .entry))) ⌝ }
 {
     let h = Header::of(seg);
@@ -70,6 +71,7 @@ fn find(pairs: &[u64], seg: &[u8], hash: u64, digest: &[u8]) -> Found
 
 // Everything but the table.
 fn look_up_under(pairs: &[u64], seg: &[u8], hash: u64, digest: &[u8]) -> Found
+    requires { ⌜ goodTable (now pairs) ≡ true ⌝ }
     ensures { λ r. ⌜ r ≡ foundUnder (now (pairs .entry)) (now (seg .entry)) (keyFrom hash (now (digest .entry))) ⌝ }
 {
     if !table::allows(pairs, hash, digest.len() as u64) {

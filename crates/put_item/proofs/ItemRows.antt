@@ -1,5 +1,5 @@
--- An item that may be written, and its row in the meaning: the row's parts are the item's numbers, its record is the row's, items sorted by their
--- keys are rows sorted by theirs; and a record's row is that of the meaning.
+-- An item that may be written, and its row in the meaning: the row's parts are the item's numbers, its record is the row's, and items sorted by their
+-- keys are rows sorted by theirs.
 -- Assumes nothing.
 use Prim.Native.Nat.{ℕ, max}
 use mathlib.Core.Path.{_≡_, refl, sym, ap, _∙_}
@@ -11,17 +11,16 @@ use lib.Dec.{eqb}
 use lib.ListN.{length, drop, length-append, length-drop}
 use lib.Seq.{length-take-le}
 use Rattle.lists.proofs.Tests.{by-test}
-use Rattle.segment.specs.declared.header.Header.{Header}
 use Rattle.segment.specs.declared.entry.Entry.{Entry}
-use Rattle.segment.specs.Format.{v3, recordsOffset, recordNo, extentsAt}
+use Rattle.segment.specs.Format.{extentsAt}
 use Rattle.lists.specs.Lists.{insert, sortBy, Each}
-use Rattle.segment.specs.Check.{sumLengths, digestIn}
-use Rattle.segment.specs.Meaning.{gone, Row, rowKey, rowExtents, sourceOf, rowOf, rowNo}
+use Rattle.segment.specs.Check.{sumLengths}
+use Rattle.segment.specs.Meaning.{gone, Row, rowKey, rowExtents, sourceOf}
 use Rattle.segment.specs.Tidy.{importedOf, domainOf, flagsOf, extentsPlace, recordFor, digestBytes, extentTotal, largestVisibility, rowLeq}
 use Rattle.segment.specs.Write.{entryNo, extentsFrom}
 use Rattle.segment.proofs.ListedExtents.{listed-counted}
 use Rattle.segment.proofs.Sources.{imported-again, source-again}
-use Rattle.form_laws.proofs.Meanings.{extents-counted}
+use Rattle.segment.proofs.Extents.{extents-counted}
 use Rattle.key.specs.declared.Kind.{Kind}
 use Rattle.key.specs.declared.Kind.the-variants.{Records, Entries}
 use Rattle.key.specs.Items.{recordSpan, entrySpan, itemHash, itemSpan, itemDigest, itemKey, Item}
@@ -188,9 +187,3 @@ module _ (kind : Kind) (bytes list extents : List ℕ) where
   unfolding largestVisibility measured itemRow rowOfEntry
   visibility-comes [] = refl
   visibility-comes (k ∷ ks) = ap (max (itemEntry kind bytes list k .visibility)) (visibility-comes ks)
-
--- ---- a record's row is that of the meaning
-
-pub record-row : (s list extents : List ℕ) (h : Header) (k : ℕ) → itemRow (Records (recordsOffset h)) s list extents k ≡ rowNo v3 s h k
-unfolding itemRow rowOfEntry itemEntry recordEntry extentsOfEntry itemExtents rowNo rowOf recordNo digestIn
-record-row s list extents h k = refl

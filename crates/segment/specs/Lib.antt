@@ -7,4 +7,5 @@ pub mod Tidy
 pub mod LookUp
 pub mod Walk
 pub mod Write
+pub mod Asked
 pub mod Listing

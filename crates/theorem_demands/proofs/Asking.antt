@@ -26,7 +26,7 @@ use Rattle.segment.proofs.Sources.{imported-fits, own-source, source-read}
 use Rattle.form_laws.specs.Form.{ExtentWritable, StateWritable, Writable, KeysApart, Contents}
 use Rattle.form_laws.proofs.PartsAt.{HasAt, has-whole, has-left, has-right, has-taken}
 use Rattle.lists.proofs.Counted.{each-iff, pairwise-iff}
-use Rattle.write_request.specs.Asked.{PlacesAsked, TotalAsked, Asked}
+use Rattle.segment.specs.Asked.{PlacesAsked, TotalAsked, Asked}
 use Rattle.theorem_demands.specs.Asking.{flat, entryNumbers, extentNumbers, digestOf, rowExtentNumbers, entryOf, entriesFor, requestFor, AskedFor}
 use Rattle.theorem_demands.proofs.Flat.{flat-long, flat-read, entry-read, extents-read, below-flat, state-wide}
 

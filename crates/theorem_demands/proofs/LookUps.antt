@@ -26,7 +26,7 @@ use Rattle.segment.specs.Keys.{Key, keyOf, allowsKey}
 use Rattle.segment.specs.Check.{keyNo, segmentVerdict, checked, checkOf}
 use Rattle.segment.specs.LookUp.{keyVerdict, recordFound, foundOver, foundNo, foundIn, foundUnder, lookedUp, lookUpOf, extentsPart}
 use Rattle.lists.proofs.Equal.{eqList-iff, unequal}
-use Rattle.look_up.proofs.Finding.{never-absent, never-refused, found-all, found-first}
+use Rattle.segment.proofs.Found.{never-absent, never-refused, found-all, found-first}
 use Rattle.theorem_demands.specs.PCases.{accepted}
 use Rattle.theorem_demands.specs.LookUps.{HasKey, Finds, LookGiven, by-table, by-key, by-segment}
 use Rattle.theorem_demands.specs.Refusals.{Given}

@@ -38,7 +38,7 @@ use Rattle.segment.specs.Write.{
   requestVerdict,
 }
 use Rattle.key.proofs.Duplicates.{twice-refused, refused-twice}
-use Rattle.write_request.proofs.RequestBook.{marks-book, lists-book, digest-book, places-book, total-book, entry-book, entries-book, request-book}
+use Rattle.write_book.proofs.RequestBook.{marks-book, lists-book, digest-book, places-book, total-book, entry-book, entries-book, request-book}
 use Rattle.theorem_demands.specs.Writing.{
   Asks,
   UpToBloom,

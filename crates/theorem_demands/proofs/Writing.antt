@@ -46,7 +46,7 @@ use Rattle.lists.specs.Lists.{Each}
 use Rattle.form_laws.specs.Form.{ExtentWritable, Writable, Contents}
 use Rattle.lists.proofs.Counted.{counted-long, each-iff, pairwise-iff}
 use Rattle.form_laws.proofs.Meanings.{meaning-writable}
-use Rattle.write_request.specs.Asked.{Asked}
+use Rattle.segment.specs.Asked.{Asked}
 use Rattle.theorem_demands.specs.PCases.{accepted}
 use Rattle.theorem_demands.specs.Tidying.{Wrote, tidyBytes, Tidiable, Keeps}
 use Rattle.theorem_demands.specs.Writing.{Wide, Lent, Asks, writtenBytes, Writes, WriteGiven}

@@ -33,7 +33,7 @@ use Rattle.segment.specs.Keys.{FirstTwice}
 use Rattle.segment.specs.Tidy.{tidyForm}
 use Rattle.segment.specs.Write.{Request, entryCount, entryNo, entryExtents, entryKey, requested}
 use Rattle.form_laws.specs.Form.{HeadingWritable}
-use Rattle.write_request.specs.Asked.{MarksAsked, ListsAsked, PlacesAsked, TotalAsked, Asked, RequestAsked}
+use Rattle.segment.specs.Asked.{MarksAsked, ListsAsked, PlacesAsked, TotalAsked, Asked, RequestAsked}
 use Rattle.theorem_demands.specs.Tidying.{SizeGiven}
 
 -- ---- what is lent

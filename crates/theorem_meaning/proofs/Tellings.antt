@@ -25,7 +25,7 @@ use Rattle.segment.specs.Check.{isGone, keyNo, checkOf}
 use Rattle.segment.specs.Meets.{LayoutMeets, LiveMeets, RecordMeets, Meets}
 use Rattle.segment.specs.Meaning.{Row, rowKey, sourceOf, rowOf, rowNo, rowsOf, headingOf, meaningOf, SameMeaning}
 use Rattle.segment.specs.LookUp.{recordFound, lookedUp, lookUpOf, extentsPart}
-use Rattle.form_laws.proofs.Meanings.{extents-counted}
+use Rattle.segment.proofs.Extents.{extents-counted}
 use Rattle.theorem_demands.specs.PCases.{accepted, absent}
 use Rattle.theorem_demands.specs.LookUps.{HasKey, Finds}
 use Rattle.theorem_demands.proofs.Rulebook.{accepts-iff}

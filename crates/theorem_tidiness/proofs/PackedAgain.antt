@@ -15,7 +15,7 @@ use Rattle.segment.specs.Meaning.{rowExtents, rowOf, rowNo}
 use Rattle.lists.specs.Lists.{countFrom}
 use Rattle.segment.specs.Tidy.{packed, recordFields, recordFor, recordsBytes, digestBytes, extentListBytes, extentBytes}
 use Rattle.segment.proofs.Sources.{imported-again, source-again}
-use Rattle.form_laws.proofs.Meanings.{extents-counted}
+use Rattle.segment.proofs.Extents.{extents-counted}
 use Rattle.form_laws.proofs.States.{Says}
 use Rattle.theorem_demands.specs.Refusals.{recordIn}
 use Rattle.theorem_meaning.specs.Accounts.{part}

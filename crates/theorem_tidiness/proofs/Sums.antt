@@ -19,7 +19,7 @@ use Rattle.segment.specs.Meets.{Meets}
 use Rattle.segment.specs.Meaning.{Row, rowExtents, rowOf, rowNo}
 use Rattle.lists.specs.Lists.{countFrom}
 use Rattle.segment.specs.Tidy.{digestBytes, extentTotal}
-use Rattle.form_laws.proofs.Meanings.{extents-counted}
+use Rattle.segment.proofs.Extents.{extents-counted}
 use Rattle.theorem_demands.specs.Refusals.{recordIn}
 use Rattle.theorem_tidiness.specs.Tidiness.{sumBelow, digestLength, digestsBefore, extentsOf, extentsBefore}
 

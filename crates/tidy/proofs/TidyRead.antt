@@ -1,129 +1,73 @@
--- A segment that is accepted: each of its records may be written, and its tidy form is that of its records.
+-- A segment that can be read: each of its records may be written, and its tidy form is that of its records.
 -- Assumes nothing.
 use Prim.Native.Nat.{ℕ, _+_, _-_, _*_, _≤_, _<_}
-use mathlib.Core.Path.{_≡_, refl, sym, ap, subst, _∙_}
+use mathlib.Core.Path.{_≡_, refl, sym, ap, _∙_}
 use mathlib.Core.Bool.{true, false}
-use mathlib.Core.Logic.{by-cases}
-use mathlib.Core.List.{List, []}
-use native.Mathlib.Decide.{ℕ-discrete}
+use mathlib.Core.List.{List}
 use native.Mathlib.Omega.{arith}
 use lib.ListN.{length, take, drop}
 use Rattle.numbers.specs.Numbers.{Bytes}
 use Rattle.numbers.proofs.NumberLaws.{num-fits}
 use Rattle.answer.specs.declared.Rule.the-variants.{Table as TableWrong}
 use Rattle.answer.specs.Answers.{refusal}
-use Rattle.answer.specs.declared.Verdict.the-variants.{Accepted}
 use Rattle.answer.specs.declared.Written.{Written}
 use Rattle.answer.specs.declared.Written.the-variants.{Refused as NotWritten}
 use Rattle.segment.specs.declared.header.Header.{Header}
 use Rattle.segment.specs.declared.header.Heading.{Heading}
-use Rattle.segment.specs.declared.record.Record.{Record}
-use Rattle.segment.specs.Format.{v3, headerOf, recordOf, recordNo, extentsAt, recordCount, recordsOffset, bloomSize}
+use Rattle.segment.specs.Format.{v3, headerOf, recordOf, recordNo, recordCount, recordsOffset, bloomSize}
 use Rattle.table.specs.Table.{goodTable, tableVerdict}
-use Rattle.segment.specs.Check.{sumLengths, digestIn, segmentVerdict, checked}
-use Rattle.segment.specs.Meets.{Meets}
+use Rattle.segment.specs.Check.{digestIn, segmentVerdict, checked}
 use Rattle.segment.specs.Meaning.{rowOf, rowNo, rowsOf, headingOf, meaningOf}
 use Rattle.segment.specs.Tidy.{tidyForm, settled, outcome, tidied, tidyOf}
-use Rattle.table.proofs.Pairs.{allowed-small}
-use Rattle.check_book.proofs.Book.{segment-book, under-table}
+use Rattle.check_book.specs.Readable.{Readable}
+use Rattle.check_book.proofs.Readable.{items}
+use Rattle.check_book.proofs.Book.{under-table}
 use Rattle.key.specs.declared.Kind.the-variants.{Records}
-use Rattle.key.specs.Items.{Item, Stands, itemSpan, recordSpan}
 use Rattle.put_item.specs.Lines.{recordEntry, itemEntry, itemExtents, Held, itemTotal, extentsOfEntry, rowOfEntry, itemRow, Line}
 use Rattle.put_tidy.specs.ItemsForm.{AllLines, itemsForm}
 use Rattle.put_form.specs.Emit.{Left}
 use Rattle.put_tidy.proofs.Left.{left-under, left-outcome}
 
-module _ (pairs s list extents : List ℕ) (g : goodTable pairs ≡ true) (b : Bytes s) (m : Meets v3 pairs s) where
-  abbrev h : Header
-  h = headerOf s
+-- ---- its records
 
-  abbrev at : ℕ → ℕ
-  at k = recordsOffset h + 48 * k
-
-  abbrev r : ℕ → Record
-  r k = recordOf v3 s (at k)
-
-  record-item : (k : ℕ) → k < recordCount h → Item (Records (recordsOffset h)) s list k
-  unfolding Stands itemSpan recordSpan recordNo
-  record-item k l =
-      let d = m .each k l .digest in
-      record {
-        stands = omega (arith, m .layout .digests, m .layout .extents, m .layout .file);
-        digest = omega (arith, d .ends, m .layout .extents, m .layout .file);
-      }
-
-  record-held : (k : ℕ) → k < recordCount h → r k .«extents_offset» .0 + 16 * r k .«extent_count» ≤ length s
-  unfolding recordNo
-  record-held k l =
-      let e = m .each k l .extents in
-      by-cases (ℕ-discrete (r k .flags) 1)
-      (λ (f : r k .flags ≡ 1). let z = e .gone f in omega (arith, z .offset, z .count))
-      (λ (f : ¬ (r k .flags ≡ 1)). let z = e .live f in omega (arith, z .ends, m .layout .file))
-
-  record-total : (k : ℕ) → k < recordCount h → r k .«total_length» ≡ sumLengths (extentsAt s (r k .«extents_offset» .0) (r k .«extent_count»))
-  unfolding recordNo sumLengths extentsAt
-  record-total k l =
-      let e = m .each k l .extents in
-      let t = m .each k l .total in
-      by-cases (ℕ-discrete (r k .flags) 1)
-      (λ (f : r k .flags ≡ 1). t .gone f ∙ sym (ap (λ (n : ℕ). sumLengths (extentsAt s (r k .«extents_offset» .0) n)) (e .gone f .count)))
-      (λ (f : ¬ (r k .flags ≡ 1)). sym (t .live f .sum))
-
-  record-line : (k : ℕ) → k < recordCount h → Line (Records (recordsOffset h)) s list extents k
+module _ (s : List ℕ) (h : Header) (v : Readable v3 s h) where
+  record-line : Bytes s → (list extents : List ℕ) (k : ℕ) → k < recordCount h → Line (Records (recordsOffset h)) s list extents k
   unfolding itemEntry recordEntry Held itemTotal extentsOfEntry itemExtents recordNo recordOf
-  record-line k l =
-      let e = m .each k l in
-      let z = allowed-small pairs (r k .«hash_id») (r k .«digest_length») g (e .digest .allowed) in
+  record-line b list extents k l =
+      let r = v .each k l in
       record {
         counted = record {
-          item = record-item k l;
+          item = items s list h v .each k l;
           narrow = record {
-            hash = z .0;
-            digest = z .1;
-            visibility = e .marks .visibility;
-            imported = e .marks .imported;
-            source = num-fits 4 s (at k + 40) b;
-            gone = e .marks .flags;
-            extents = num-fits 4 s (at k + 24) b;
+            hash = r .hash;
+            digest = r .short;
+            visibility = r .marks .visibility;
+            imported = r .marks .imported;
+            source = num-fits 4 s (recordsOffset h + 48 * k + 40) b;
+            gone = r .marks .flags;
+            extents = omega (arith, r .extents, v .laid .most);
           };
         };
-        source = e .marks .source;
-        none = λ f. e .extents .gone f .count;
-        held = record-held k l;
-        total = record-total k l;
-        fits = let t = num-fits 4 s (at k + 28) b in omega arith;
+        source = r .marks .source;
+        none = r .none;
+        held = r .extents;
+        total = r .total;
+        fits = omega (arith, r .limit);
       }
 
-  record-lines : AllLines (Records (recordsOffset h)) s list extents (recordCount h)
-  record-lines = record { each = record-line }
+  pub read-lines : Bytes s → (list extents : List ℕ) → AllLines (Records (recordsOffset h)) s list extents (recordCount h)
+  read-lines b list extents = record { each = record-line b list extents }
 
-  bloom-end : 112 + bloomSize h ≤ length s
-  bloom-end = omega (arith, m .layout .records, m .layout .digests, m .layout .extents, m .layout .file)
+  pub bloom-within : 112 + bloomSize h ≤ length s
+  bloom-within = omega (arith, v .laid .layout)
+
+-- ---- its tidy form
 
 same-form : (s list extents : List ℕ)
     → itemsForm (headingOf s (headerOf s)) (take (bloomSize (headerOf s)) (drop 112 s)) (Records (recordsOffset (headerOf s))) s list extents (recordCount (headerOf s))
     ≡ tidyForm v3 (meaningOf v3 s)
 unfolding itemsForm meaningOf rowsOf rowNo rowOf recordNo itemRow rowOfEntry itemEntry recordEntry extentsOfEntry itemExtents digestIn
 same-form s list extents = refl
-
--- ---- under the header as it was read
-
-module _ (pairs s : List ℕ) (g : goodTable pairs ≡ true) (b : Bytes s) (a : segmentVerdict v3 pairs s ≡ Accepted) (h : Header) (e : h ≡ headerOf s) where
-  meets : Meets v3 pairs s
-  meets = segment-book pairs s .0 a
-
-  pub long : 136 ≤ length s
-  long = meets .size .least
-
-  pub bloom-within : 112 + bloomSize h ≤ length s
-  bloom-within = rw e (bloom-end pairs s [] [] g b meets)
-
-  pub read-lines : (list extents : List ℕ) → AllLines (Records (recordsOffset h)) s list extents (recordCount h)
-  read-lines list extents =
-      subst (λ (x : Header). AllLines (Records (recordsOffset x)) s list extents (recordCount x)) (sym e) (record-lines pairs s list extents g b meets)
-
-  pub few : recordCount h ≤ 65536
-  few = subst (λ (x : Header). recordCount x ≤ 65536) (sym e) (meets .layout .few)
 
 pub read-form : (s list extents : List ℕ) (h : Header) (t : Heading) → h ≡ headerOf s → t ≡ headingOf s h
     → itemsForm t (take (112 + bloomSize h - 112) (drop 112 s)) (Records (recordsOffset h)) s list extents (recordCount h) ≡ tidyForm v3 (meaningOf v3 s)

@@ -14,7 +14,6 @@ use Rattle.answer.specs.declared.Verdict.{Verdict}
 use Rattle.answer.specs.declared.Verdict.the-variants.{Accepted, Refused as Stopped}
 use Rattle.answer.specs.Answers.{checkAnswer}
 use Rattle.answer.specs.Rules.{after}
-use Rattle.answer.proofs.Order.{then-accepted}
 use Rattle.lists.proofs.Tests.{ltb-iff}
 use Rattle.answer.proofs.Settled.{check-settled}
 use Rattle.segment.specs.declared.header.Header.{Header}
@@ -22,10 +21,10 @@ use Rattle.segment.specs.declared.record.Record.{Record}
 use Rattle.segment.specs.declared.step.Step.{Step}
 use Rattle.segment.specs.declared.step.Step.the-variants.{Row, Done, Refused}
 use Rattle.segment.specs.Format.{v3, headerOf, recordOf, recordNo, recordCount, recordsOffset}
-use Rattle.table.specs.Table.{tableVerdict}
-use Rattle.segment.specs.Check.{segmentVerdict, checked, checkOf}
+use Rattle.segment.specs.Check.{checked, checkOf}
 use Rattle.segment.specs.Walk.{stepped, nextPlace, stepAnswer, stepOf}
-use Rattle.check_segment.proofs.SegmentOrder.{sound-of}
+use Rattle.check_book.specs.Readable.{Readable}
+use Rattle.check_book.proofs.Readable.{checked-readable}
 use Rattle.walk_step.specs.declared.Turn.{Turn}
 use Rattle.walk_step.specs.Steps.{turnOf}
 
@@ -69,9 +68,8 @@ module _ (pairs s : List ℕ) (v : Verdict) (checks : checkAnswer v ≡ checkOf 
   unfolding checkOf
   verdict = check-settled v (checked pairs s) checks
 
-  pub accepted : v ≡ Accepted → segmentVerdict v3 pairs s ≡ Accepted
-  unfolding checked
-  accepted a = then-accepted (tableVerdict pairs) (segmentVerdict v3 pairs s) .0 (sym verdict ∙ a) .1
+  pub accepted : v ≡ Accepted → Readable v3 s (headerOf s)
+  accepted a = checked-readable pairs s (sym verdict ∙ a)
 
   module _ (k : ℕ) where
     pub stops : (x : Refusal) → v ≡ Stopped x → Refused x ≡ stepped pairs s k
@@ -93,11 +91,9 @@ module _ (pairs s : List ℕ) (v : Verdict) (checks : checkAnswer v ≡ checkOf 
 
 module _ (pairs s : List ℕ) (k : ℕ) (t : Step) (e : t ≡ stepped pairs s k) where
   pub few-rows : (r : Record) → t ≡ Row r → k < 65536
-  unfolding checked
   few-rows r f =
       let given = row-iff pairs s k r .0 (sym e ∙ f) in
-      let sound = sound-of pairs s (then-accepted (tableVerdict pairs) (segmentVerdict v3 pairs s) .0 (given .0) .1) in
-      omega (arith, given .1 .0, sound .laid .few)
+      omega (arith, given .1 .0, checked-readable pairs s (given .0) .laid .layout .few)
 
   turned : (p : ℕ) → p ≡ nextPlace t k → _≡_ {A = Turn} (record { step = t; at = p }) (turnOf pairs s k)
   turned p h = rw (h, e)

@@ -19,7 +19,7 @@ use Rattle.segment.specs.Write.{Request, entryCount, entryNo, entryRow, entryDi
 use Rattle.table.proofs.Pairs.{allowed-small}
 use Rattle.key.specs.declared.Kind.the-variants.{Entries}
 use Rattle.put_item.specs.Lines.{itemEntry, itemExtents, Held, itemTotal, extentsOfEntry, rowOfEntry, itemRow, Line}
-use Rattle.write_request.proofs.RequestBook.{request-book, request-items}
+use Rattle.write_book.proofs.RequestBook.{request-book, request-items}
 use Rattle.put_tidy.specs.ItemsForm.{AllLines, itemsForm}
 use Rattle.put_form.specs.Emit.{Left}
 use Rattle.put_tidy.proofs.Left.{left-under, left-outcome}

@@ -1,2 +1,1 @@
-pub mod RequestBook
 pub mod RequestOrder

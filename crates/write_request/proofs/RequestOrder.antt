@@ -39,7 +39,7 @@ use Rattle.segment.specs.Write.{
 use Rattle.key.specs.declared.Kind.the-variants.{Entries}
 use Rattle.key.specs.Items.{itemKey, itemPlace}
 use Rattle.write_entry.specs.Kept.{marksKept, listsKept, placesKept, totalKept}
-use Rattle.write_request.proofs.RequestBook.{same-keys}
+use Rattle.write_book.proofs.RequestBook.{same-keys}
 
 -- ---- one entry
 

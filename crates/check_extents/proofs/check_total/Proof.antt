@@ -2,14 +2,16 @@
 use mathlib.Core.Path.{sym, _∙_}
 use borrow.Author.Needs.{needs}
 use native.Mathlib.Omega.{arith}
-use Rattle.check_extents.proofs.ExtentRows.{gone-total, gone-none, total-past, total-great, total-differs, total-accepted, live-inside}
+use Rattle.check_book.proofs.TablesRecord.{extents-book}
+use Rattle.check_book.proofs.Readable.{extents-inside}
+use Rattle.check_extents.proofs.ExtentRows.{gone-total, gone-none, total-past, total-great, total-differs, total-accepted}
 use Rattle.check_extents.proofs.check_total.Statement.{statement}
 use Rattle.check_extents.proofs.check_total.Tie as tie
 
 in-reach : tie.Need-sum-extents-requires
 in-reach c κs =
     let p = c .before .before .before .before .pre in
-    let i = live-inside _ _ _ (omega arith) (p .1) in
+    let i = extents-inside _ _ _ _ (p .0) (extents-book _ _ _ .0 (p .1)) in
     (omega arith, omega arith)
 
 pub check-total-spec : {M : Type 1} → statement M

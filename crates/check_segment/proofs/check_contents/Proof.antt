@@ -4,7 +4,9 @@ use borrow.Author.Needs.{needs}
 use native.Mathlib.Omega.{arith}
 use Rattle.key.proofs.Duplicates.{keys-book}
 use Rattle.key_ascending.proofs.Climbing.{none-twice}
-use Rattle.check_segment.proofs.SegmentOrder.{contents-stop, shown-wrong, all-passed, records-stand, keys-told}
+use Rattle.check_book.proofs.Book.{records-book}
+use Rattle.check_book.proofs.Readable.{met-items}
+use Rattle.check_segment.proofs.SegmentOrder.{contents-stop, shown-wrong, all-passed, keys-told}
 use Rattle.check_segment.proofs.check_contents.Statement.{statement}
 use Rattle.check_segment.proofs.check_contents.Tie as tie
 
@@ -12,7 +14,7 @@ asked : tie.Need-keys-climb-requires
 asked c κs =
     let at = c .before .before .before in
     let laid = at .before .before .before .before .before .pre in
-    records-stand _ _ _ laid (all-passed _ _ _ (at .v .given .0 .0) (sym (at .v .given .1) ∙ at .before .before .check-records .ensures))
+    met-items _ _ _ laid _ (records-book _ _ _ _ _ .0 (all-passed _ _ _ (at .v .given .0 .0) (sym (at .v .given .1) ∙ at .before .before .check-records .ensures)))
 
 climbing : tie.Need-returns-3
 climbing c =
@@ -24,7 +26,7 @@ readable : tie.Need-check-keys-requires
 readable c κs =
     let at = c .before .before .before .before .before in
     let laid = at .before .before .before .before .before .pre in
-    (records-stand _ _ _ laid (all-passed _ _ _ (at .v .given .0 .0) (sym (at .v .given .1) ∙ at .before .before .check-records .ensures)), laid .few)
+    (met-items _ _ _ laid _ (records-book _ _ _ _ _ .0 (all-passed _ _ _ (at .v .given .0 .0) (sym (at .v .given .1) ∙ at .before .before .check-records .ensures))), laid .layout .few)
 
 told : tie.Need-returns-4
 told c =

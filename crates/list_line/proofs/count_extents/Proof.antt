@@ -2,7 +2,7 @@
 use Prim.Native.Nat.{_-_}
 use native.Mathlib.Omega.{arith}
 use Rattle.segment.specs.Format.{headerOf}
-use Rattle.list_line.proofs.ListedRows.{record-fits, record-known}
+use Rattle.list_line.proofs.ListedRows.{record-fits, few-extents}
 use Rattle.list_line.proofs.LinesPut.{Counting, counting-start, counting-more, counting-done}
 use Rattle.list_line.proofs.count_extents.Statement.{statement}
 use Rattle.list_line.proofs.count_extents.Tie as tie
@@ -20,12 +20,12 @@ count-extents-spec =
     Inv-loop
     μ-loop
     (λ c. counting-start _)
-    (λ c. let start = c .before .before .before in omega (arith, c .loop-test .taken, start .pre .few))
+    (λ c. let start = c .before .before .before in omega (arith, c .loop-test .taken, start .pre .laid .layout .few))
     (λ c. let start = c .before .before .before in omega (arith, record-fits _ _ (start .pre) _ (c .loop-test .taken)))
     (λ c κs. let start = c .before .before .before in omega (arith, record-fits _ _ (start .pre) _ (c .loop-test .taken)))
     (λ c. omega arith)
     (λ c. let turn = c .before .before in let start = turn .before .before .before in
-    omega (arith, record-known _ _ (start .pre) _ (turn .loop-test .taken) _ (c .before .at .ensures) .3, turn .before .loop .inv .small, turn .loop-test .taken, start .pre .few))
+    omega (arith, few-extents _ _ (start .pre) _ (turn .loop-test .taken) _ (c .before .at .ensures), turn .before .loop .inv .small, turn .loop-test .taken, start .pre .laid .layout .few))
     (λ c. omega (arith, c .before .before .loop-test .taken))
     (λ c. omega (arith, c .before .before .loop-test .taken))
     (λ c. let turn = c .before .before in let start = turn .before .before .before in

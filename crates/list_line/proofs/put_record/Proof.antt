@@ -12,19 +12,19 @@ put-record-spec =
     tie.close
     (tie.spec
     (λ c. record-past _ _ _ _ _ (c .if1 .taken) (c .before .before .before .pre .1))
-    (λ c. let start = c .before .before .before in omega (arith, c .if1 .left, start .pre .0 .few))
+    (λ c. let start = c .before .before .before in omega (arith, c .if1 .left, start .pre .0 .laid .layout .few))
     (λ c. let start = c .before .before .before in omega (arith, record-fits _ _ (start .pre .0) _ (c .if1 .left)))
     (λ c κs. let start = c .before .before .before in omega (arith, record-fits _ _ (start .pre .0) _ (c .if1 .left)))
     (λ c. search needs)
     (λ c. let read = c .before in let start = read .before .before .before .before in
-    omega (arith, record-known _ _ (start .pre .0) _ (read .before .if1 .left) _ (read .at .ensures) .0))
+    omega (arith, record-known _ _ (start .pre .0) _ (read .before .if1 .left) _ (read .at .ensures) .digest))
     (λ c. omega arith)
     (λ c. omega arith)
     (λ c. let read = c .before in let start = read .before .before .before .before in
-    omega (arith, record-known _ _ (start .pre .0) _ (read .before .if1 .left) _ (read .at .ensures) .0))
+    omega (arith, record-known _ _ (start .pre .0) _ (read .before .if1 .left) _ (read .at .ensures) .digest))
     (λ c κs. let read = c .before .before .before in let start = read .before .before .before .before in
-    (digest-short _ _ _ (record-known _ _ (start .pre .0) _ (read .before .if1 .left) _ (read .at .ensures) .1), start .pre .1))
-    (λ c. let else = c .before .before .before .before .before .before .before in omega (arith, else .if1 .left, else .before .before .before .pre .0 .few))
+    (digest-short _ _ _ (record-known _ _ (start .pre .0) _ (read .before .if1 .left) _ (read .at .ensures) .short), start .pre .1))
+    (λ c. let else = c .before .before .before .before .before .before .before in omega (arith, else .if1 .left, else .before .before .before .pre .0 .laid .layout .few))
     (λ c. search needs)
     (λ c. let put = c .before .before in let read = put .before .before .before .before in
     let start = read .before .before .before .before in

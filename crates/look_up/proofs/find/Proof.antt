@@ -2,7 +2,9 @@
 use Prim.Native.Nat.{_≤_, _-_}
 use borrow.Author.Needs.{needs}
 use native.Mathlib.Omega.{arith}
-use Rattle.check_segment.proofs.SegmentOrder.{Readable, sound-of, readable}
+use Rattle.segment.specs.Format.{v3}
+use Rattle.check_book.specs.Readable.{Readable}
+use Rattle.check_book.proofs.Readable.{items, read}
 use Rattle.segment.specs.Keys.{keyFrom}
 use Rattle.look_up.proofs.Finding.{Searching, search-start, search-more, search-hit, search-done}
 use Rattle.look_up.proofs.find.Statement.{statement}
@@ -14,8 +16,8 @@ Inv-loop pairs seg hash digest first count head k₀ k = (k ≤ count) × Search
 abbrev μ-loop : tie.MeasureT-loop
 μ-loop pairs seg hash digest first count head k₀ k = count - k
 
-known : (c : tie.After-of Inv-loop μ-loop) → Readable (c .before .before .before .before .args .pairs .now) (c .before .before .before .before .args .seg .now) (c .of .result)
-known c = readable _ _ _ (c .of .ensures) (c .before .before .before .before .pre)
+known : (c : tie.After-of Inv-loop μ-loop) → Readable v3 (c .before .before .before .before .args .seg .now) (c .of .result)
+known c = read _ _ _ (c .of .ensures) (c .before .before .before .before .pre)
 
 hit : tie.Need-returns Inv-loop μ-loop
 hit c =
@@ -37,9 +39,9 @@ find-spec =
     (tie.spec
     Inv-loop
     μ-loop
-    (λ c κs. let f = sound-of _ _ (c .before .before .before .pre) in omega arith)
+    (λ c κs. omega (arith, c .before .before .before .pre .long))
     (λ c. (omega arith, search-start _ _))
-    (λ c κs. known (c .before .before) .items .each _ (omega arith))
+    (λ c κs. items _ _ _ (known (c .before .before)) .each _ (omega arith))
     (λ c. let l = known (c .before .before .before .before) .laid in omega arith)
     (λ c. let l = known (c .before .before .before .before) .laid in omega arith)
     (λ c κs. let l = known (c .before .before .before .before) .laid in omega arith)

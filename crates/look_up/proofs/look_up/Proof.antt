@@ -1,5 +1,5 @@
 -- `look_up::look_up` meets its contract: the table, and then the rest under the copied table.
-use mathlib.Core.Path.{_≡_}
+use mathlib.Core.Path.{_≡_, ap, _∙_}
 use mathlib.Core.Bool.{true}
 use borrow.Author.Needs.{needs}
 use native.Mathlib.Omega.{arith}
@@ -22,5 +22,5 @@ look-up-spec =
     (λ c κs. sized _ (good c))
     (λ c. in-front _ _ (c .copied .ensures) _ (omega arith))
     (λ c. front-long _ _ (c .before .copied .ensures) _ (omega arith))
-    (λ c κs. search needs)
+    (λ c κs. ap goodTable (front-is _ _ (c .before .copied .ensures)) ∙ good (c .before .before))
     (λ c. table-good _ _ _ _ (good (c .before .before .before)) (front-is _ _ (c .before .before .copied .ensures)) (c .look-up-under .ensures)))

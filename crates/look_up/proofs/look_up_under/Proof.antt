@@ -1,6 +1,7 @@
 -- `look_up::look_up_under` meets its contract: the key, the segment, and then the record.
 use mathlib.Core.Path.{sym, _∙_}
 use borrow.Author.Needs.{needs}
+use Rattle.check_book.proofs.Readable.{under-readable}
 use Rattle.look_up.proofs.Finding.{unknown-key, segment-stop, segment-pass}
 use Rattle.look_up.proofs.look_up_under.Statement.{statement}
 use Rattle.look_up.proofs.look_up_under.Tie as tie
@@ -18,7 +19,9 @@ look-up-under-spec =
     let at = said .before in
     segment-stop _ _ _ _ (at .before .allows .ensures) (at .if1 .left) _ (sym (said .check-segment .ensures) ∙ c .before .r .given .1))
     (λ c. search needs)
-    (λ c κs. sym (c .before .before .check-segment .ensures) ∙ c .enum-told .given .1)
+    (λ c κs.
+    let said = c .before .before in
+    under-readable _ _ (said .before .before .before .before .before .before .pre) (sym (said .check-segment .ensures) ∙ c .enum-told .given .1))
     (λ c.
     let said = c .before .before .before in
     let at = said .before in

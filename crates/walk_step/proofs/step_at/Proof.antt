@@ -1,22 +1,20 @@
 -- `walk_step::step_at` meets its contract: check, and then the record.
-use mathlib.Core.Path.{_≡_}
 use borrow.Author.Needs.{needs}
 use native.Mathlib.Omega.{arith}
-use Rattle.answer.specs.declared.Verdict.the-variants.{Accepted}
-use Rattle.segment.specs.Format.{v3}
-use Rattle.segment.specs.Check.{segmentVerdict}
-use Rattle.check_segment.proofs.SegmentOrder.{Readable, sound-of, readable}
+use Rattle.segment.specs.Format.{v3, headerOf}
+use Rattle.check_book.specs.Readable.{Readable}
+use Rattle.check_book.proofs.Readable.{read}
 use Rattle.walk_step.proofs.Stepping.{stops, accepted, ends, gives}
 use Rattle.walk_step.proofs.step_at.Statement.{statement}
 use Rattle.walk_step.proofs.step_at.Tie as tie
 
 passed : (c : tie.After-enum-told)
-    → let start = c .before .before .before .before .before in segmentVerdict v3 (start .args .pairs .now) (start .args .segment .now) ≡ Accepted
+    → let start = c .before .before .before .before .before in Readable v3 (start .args .segment .now) (headerOf (start .args .segment .now))
 passed c = accepted _ _ (c .before .before .check .result) (c .before .before .check .ensures) (c .enum-told .given .1)
 
 known : (c : tie.After-of)
-    → let start = c .before .before .before .before .before .before in Readable (start .args .pairs .now) (start .args .segment .now) (c .of .result)
-known c = readable _ _ _ (c .of .ensures) (passed (c .before))
+    → let start = c .before .before .before .before .before .before in Readable v3 (start .args .segment .now) (c .of .result)
+known c = read _ _ _ (c .of .ensures) (passed (c .before))
 
 pub step-at-spec : {M : Type 1} → statement M
 step-at-spec =
@@ -26,7 +24,7 @@ step-at-spec =
     (λ c. search needs)
     (λ c. stops _ _ (c .before .before .before .check .result) (c .before .before .before .check .ensures) _ _ (c .before .r .given .1))
     (λ c. search needs)
-    (λ c κs. let f = sound-of _ _ (passed c) in omega arith)
+    (λ c κs. omega (arith, passed c .long))
     (λ c. ends _ _ (c .before .before .before .before .check .result) (c .before .before .before .before .check .ensures) _ (c .before .before .enum-told .given .1) _ (c .before .of .ensures) (omega arith))
     (λ c. let l = known (c .before) .laid in omega arith)
     (λ c. let l = known (c .before) .laid in omega arith)

@@ -3,7 +3,7 @@ use mathlib.Core.Path.{sym, _∙_}
 use borrow.Author.Needs.{needs}
 use Rattle.key.proofs.Duplicates.{keys-book}
 use Rattle.key_ascending.proofs.Climbing.{none-twice}
-use Rattle.write_request.proofs.RequestBook.{entries-book, entries-stand}
+use Rattle.write_book.proofs.RequestBook.{entries-book, entries-stand}
 use Rattle.write_request.proofs.RequestOrder.{too-many, bloom-odd, entries-stop, keys-told}
 use Rattle.write_request.proofs.check_request.Statement.{statement}
 use Rattle.write_request.proofs.check_request.Tie as tie

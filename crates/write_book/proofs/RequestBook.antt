@@ -36,7 +36,7 @@ use Rattle.segment.specs.Write.{
 use Rattle.key.specs.declared.Kind.the-variants.{Entries}
 use Rattle.key.specs.Items.{Item, Items, Stands, itemKey, itemHash, itemDigest, itemSpan, itemPlace, entrySpan}
 use Rattle.key.proofs.Duplicates.{keys-book}
-use Rattle.write_request.specs.Asked.{MarksAsked, ListsAsked, PlacesAsked, TotalAsked, Asked, RequestAsked}
+use Rattle.segment.specs.Asked.{MarksAsked, ListsAsked, PlacesAsked, TotalAsked, Asked, RequestAsked}
 
 -- ---- 7
 

@@ -1,0 +1,1 @@
+// No code: the listing of a published case.
