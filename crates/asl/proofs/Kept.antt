@@ -1,5 +1,5 @@
 -- A refused call of an entry point changes nothing but the place; and what a promise says settles every number and byte.
---   look-up-keeps, tidy-keeps, write-keeps         the lent numbers, the size and the output stay
+--   call-look-up-keeps, call-tidy-keeps, call-write-keeps         the lent numbers, the size and the output stay
 --   one-told, one-looked-up, one-sealed            two answers that one promise allows are equal
 -- Assumes nothing.
 use Prim.Native.Nat.{ℕ}
@@ -16,9 +16,9 @@ use Rattle.segment.specs.Write.{Request, wrote, writeOf}
 use Rattle.c_answer.specs.declared.Reply.{Reply}
 use Rattle.c_answer.specs.Boundary.{told, LookedUp, lookedUpBy, replyLeft, Sealed, sealedBy, sealedAs}
 
-pub look-up-keeps : (a : Reply) (found : List ℕ) → (replyLeft a found .number ≡ 0 → ⊥) → replyLeft a found .found ≡ found
+pub call-look-up-keeps : (a : Reply) (found : List ℕ) → (replyLeft a found .number ≡ 0 → ⊥) → replyLeft a found .found ≡ found
 unfolding replyLeft
-look-up-keeps a found refused =
+call-look-up-keeps a found refused =
     by-test (eqb (a .number) 0)
     (λ e. by-test (leb 8 (length found)) (λ f. absurd (refused (rw (e, f) refl))) (λ f. rw (e, f) refl))
     (λ e. rw e refl)
@@ -30,15 +30,15 @@ unfolding sealedAs
 written-keeps (Done n) form out before refused = absurd (refused refl)
 written-keeps (Refused r) form out before refused = (refl, refl)
 
-pub tidy-keeps : (pairs s out : List ℕ) (before : ℕ) → (sealedAs (tidyOf pairs s out) before .number ≡ 0 → ⊥)
+pub call-tidy-keeps : (pairs s out : List ℕ) (before : ℕ) → (sealedAs (tidyOf pairs s out) before .number ≡ 0 → ⊥)
     → (sealedAs (tidyOf pairs s out) before .size ≡ before) × (sealedAs (tidyOf pairs s out) before .output ≡ out)
 unfolding tidyOf
-tidy-keeps pairs s out before = written-keeps (tidied pairs s (length out)) _ out before
+call-tidy-keeps pairs s out before = written-keeps (tidied pairs s (length out)) _ out before
 
-pub write-keeps : (pairs : List ℕ) (q : Request) (out : List ℕ) (before : ℕ) → (sealedAs (writeOf pairs q out) before .number ≡ 0 → ⊥)
+pub call-write-keeps : (pairs : List ℕ) (q : Request) (out : List ℕ) (before : ℕ) → (sealedAs (writeOf pairs q out) before .number ≡ 0 → ⊥)
     → (sealedAs (writeOf pairs q out) before .size ≡ before) × (sealedAs (writeOf pairs q out) before .output ≡ out)
 unfolding writeOf
-write-keeps pairs q out before = written-keeps (wrote pairs q (length out)) _ out before
+call-write-keeps pairs q out before = written-keeps (wrote pairs q (length out)) _ out before
 
 pub one-told : {n n′ p p′ : ℕ} {a : Answer} → told n p ≡ a → told n′ p′ ≡ a → (n ≡ n′) × (p ≡ p′)
 one-told e f = let same = e ∙ sym f in (ap (λ (a : Answer). a .number) same, ap (λ (a : Answer). a .place) same)

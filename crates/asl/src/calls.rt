@@ -37,7 +37,9 @@ pub extern "C" fn asl_look_up(
     found: &mut [u64],
     place: &mut u64,
 ) -> u64
-    ensures { λ r. ⌜ lookedUpBy r (now (place .exit)) (now (found .exit)) ≡ replyLeft (replyOf (lookedUp (tableIn (now (table .entry))) (now (segment .entry)) (keyFrom «hash_id» (now (digest .entry))))) (now (found .entry)) ⌝ }
+    ensures { λ r. ⌜ lookedUpBy r (now (place .exit)) (now (found .exit)) ≡
+        replyLeft (replyOf (lookedUp (tableIn (now (table .entry))) (now (segment .entry)) (keyFrom «hash_id» (now (digest .entry)))))
+        (now (found .entry)) ⌝ }
 {
     let numbers = c_table::numbers_in(table);
     let count = c_table::count_in(table);
@@ -53,7 +55,8 @@ pub extern "C" fn asl_tidy(
     size: &mut u64,
     place: &mut u64,
 ) -> u64
-    ensures { λ r. ⌜ sealedBy r (now (place .exit)) (now (size .exit)) (now (out .exit)) ≡ sealedAs (tidyOf (tableIn (now (table .entry))) (now (segment .entry)) (now (out .entry))) (now (size .entry)) ⌝ }
+    ensures { λ r. ⌜ sealedBy r (now (place .exit)) (now (size .exit)) (now (out .exit)) ≡ sealedAs (tidyOf
+        (tableIn (now (table .entry))) (now (segment .entry)) (now (out .entry))) (now (size .entry)) ⌝ }
 {
     let numbers = c_table::numbers_in(table);
     let count = c_table::count_in(table);
@@ -78,7 +81,11 @@ pub extern "C" fn asl_write(
     size: &mut u64,
     place: &mut u64,
 ) -> u64
-    ensures { λ r. ⌜ sealedBy r (now (place .exit)) (now (size .exit)) (now (out .exit)) ≡ sealedAs (writeOf (tableIn (now (table .entry))) (asked (headed shard «snapshot_min» «snapshot_max» domain «seal_snapshot» «seal_time») (now (bloom .entry)) (now (entries .entry)) (now (digests .entry)) (now (extents .entry))) (now (out .entry))) (now (size .entry)) ⌝ }
+    ensures { λ r. ⌜ sealedBy r (now (place .exit)) (now (size .exit)) (now (out .exit)) ≡ sealedAs (writeOf
+        (tableIn (now (table .entry)))
+        (asked (headed shard «snapshot_min» «snapshot_max» domain «seal_snapshot» «seal_time»)
+        (now (bloom .entry)) (now (entries .entry)) (now (digests .entry)) (now (extents .entry)))
+        (now (out .entry))) (now (size .entry)) ⌝ }
 {
     let numbers = c_table::numbers_in(table);
     let count = c_table::count_in(table);

@@ -80,7 +80,7 @@ fn check_layout(h: Header, n: u64) -> Verdict
     if h.bloom_size % 8 != 0 {
         return Verdict::Refused(Refusal(Rule::Layout, 0));
     }
-    if 65536 < h.record_count {
+    if segment::MOST_RECORDS < h.record_count {
         return Verdict::Refused(Refusal(Rule::Layout, 0));
     }
     if !is_sum(h.records_offset.0, Header::LONG, h.bloom_size) {

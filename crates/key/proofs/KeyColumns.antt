@@ -6,9 +6,10 @@ use mathlib.Core.List.{List}
 use native.Mathlib.Omega.{arith}
 use lib.ListN.{length, getD, take, drop}
 use Rattle.numbers.specs.Numbers.{numAt}
-use Rattle.segment.specs.Format.{v3, recordOf}
+use Rattle.segment.specs.Format.{v3, entrySize, recordOf}
+use Rattle.segment.specs.declared.entry.Entry.{Entry}
 use Rattle.segment.specs.Check.{placeFrom}
-use Rattle.segment.specs.Write.{entryPlace}
+use Rattle.segment.specs.Write.{entryNo, entryPlace}
 use Rattle.key.specs.declared.Kind.{Kind}
 use Rattle.key.specs.declared.Kind.the-variants.{Records, Entries}
 use Rattle.key.specs.declared.Span.{Span}
@@ -19,7 +20,7 @@ module _ (kind : Kind) (bytes list : List ℕ) (k : ℕ) where
   unfolding Stands
   record-stands at e i = subst (λ (q : Kind). Stands q bytes list k) e (i .stands)
 
-  pub entry-stands : kind ≡ Entries → Item kind bytes list k → 9 * k + 9 ≤ length list
+  pub entry-stands : kind ≡ Entries → Item kind bytes list k → entrySize * k + entrySize ≤ length list
   unfolding Stands
   entry-stands e i = subst (λ (q : Kind). Stands q bytes list k) e (i .stands)
 
@@ -27,17 +28,17 @@ module _ (kind : Kind) (bytes list : List ℕ) (k : ℕ) where
   unfolding itemHash recordOf
   record-hash at e h = rw e h
 
-  pub entry-hash : kind ≡ Entries → getD list (9 * k) 0 ≡ itemHash kind bytes list k
+  pub entry-hash : {r : Entry} → kind ≡ Entries → r ≡ entryNo list k → r .«hash_id» ≡ itemHash kind bytes list k
   unfolding itemHash
-  entry-hash e = rw e
+  entry-hash e h = rw (e, h)
 
   pub record-digest : (at : ℕ) {r : Span} → kind ≡ Records at → r ≡ recordSpan bytes (at + 48 * k) → r ≡ itemSpan kind bytes list k
   unfolding itemSpan
   record-digest at e h = rw e h
 
-  pub entry-digest : {r : Span} → kind ≡ Entries → r ≡ entrySpan list (9 * k) → r ≡ itemSpan kind bytes list k
+  pub entry-digest : {r : Span} {x : Entry} → kind ≡ Entries → x ≡ entryNo list k → r ≡ entrySpan x → r ≡ itemSpan kind bytes list k
   unfolding itemSpan
-  entry-digest e h = rw e h
+  entry-digest e q h = rw (e, ← q) h
 
   -- a span that is the item's lies in the bytes, and holds its digest
   module _ (r : Span) (e : r ≡ itemSpan kind bytes list k) where

@@ -9,29 +9,30 @@
 use Prim.Native.Nat.{ℕ, _+_, _*_, _≤_, _<_}
 use mathlib.Core.List.{List}
 use lib.ListN.{length, getD, take, drop}
-use Rattle.segment.specs.Format.{v3, recordOf}
+use Rattle.segment.specs.Format.{v3, entrySize, recordOf}
+use Rattle.segment.specs.declared.entry.Entry.{Entry}
 use Rattle.segment.specs.Keys.{keyOf, keyFrom}
 use Rattle.segment.specs.Check.{placeFrom}
-use Rattle.segment.specs.Write.{entryPlace}
+use Rattle.segment.specs.Write.{entryNo, entryPlace}
 use Rattle.key.specs.declared.Kind.{Kind}
 use Rattle.key.specs.declared.Kind.the-variants.{Records, Entries}
 use Rattle.key.specs.declared.Span.{Span}
 use Rattle.key.specs.declared.head.Head.{Head}
 
--- where the digest of a record lies, and of an entry whose nine numbers begin at a place of the list
+-- where the digest of a record lies, and of an entry
 unfoldable pub recordSpan : List ℕ → ℕ → Span
 recordSpan bytes at = record { start = recordOf v3 bytes at .«digest_offset» .0; size = recordOf v3 bytes at .«digest_length» }
 
-unfoldable pub entrySpan : List ℕ → ℕ → Span
-entrySpan list at = record { start = getD list (at + 1) 0; size = getD list (at + 2) 0 }
+unfoldable pub entrySpan : Entry → Span
+entrySpan e = record { start = e .«digest_start»; size = e .«digest_length» }
 
 unfoldable pub itemHash : Kind → List ℕ → List ℕ → ℕ → ℕ
 itemHash (Records at) bytes list k = recordOf v3 bytes (at + 48 * k) .«hash_id»
-itemHash Entries bytes list k = getD list (9 * k) 0
+itemHash Entries bytes list k = entryNo list k .«hash_id»
 
 unfoldable pub itemSpan : Kind → List ℕ → List ℕ → ℕ → Span
 itemSpan (Records at) bytes list k = recordSpan bytes (at + 48 * k)
-itemSpan Entries bytes list k = entrySpan list (9 * k)
+itemSpan Entries bytes list k = entrySpan (entryNo list k)
 
 unfoldable pub itemDigest : Kind → List ℕ → List ℕ → ℕ → List ℕ
 itemDigest kind bytes list k = take (itemSpan kind bytes list k .size) (drop (itemSpan kind bytes list k .start) bytes)
@@ -50,7 +51,7 @@ itemPlace Entries k = entryPlace k
 -- the item itself stands in its source
 unfoldable pub Stands : Kind → List ℕ → List ℕ → ℕ → Type 0
 Stands (Records at) bytes list k = at + 48 * k + 48 ≤ length bytes
-Stands Entries bytes list k = 9 * k + 9 ≤ length list
+Stands Entries bytes list k = entrySize * k + entrySize ≤ length list
 
 -- and so does its digest, in the bytes
 pub record Item (kind : Kind) (bytes list : List ℕ) (k : ℕ) : Type 0 where

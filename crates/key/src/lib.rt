@@ -6,6 +6,7 @@ ghost use lib.ListN.{length};
 ghost use Rattle.key.specs.Items.{recordSpan, entrySpan, Item, itemHash, itemHead, itemSpan, itemDigest, itemPlace};
 use crate::head::Head;
 use field_record::record;
+use segment::entry::Entry;
 use segment::record::Record;
 
 pub mod head;
@@ -28,7 +29,7 @@ fn hash_of(kind: Kind, bytes: &[u8], list: &[u64], k: usize) -> u64
 {
     match kind {
         Kind::Records(at) => record::hash_id(bytes, at + Record::SIZE * k) as u64,
-        Kind::Entries => list[9 * k],
+        Kind::Entries => Entry::at(list, k).hash_id,
     }
 }
 
@@ -51,12 +52,11 @@ fn record_span(bytes: &[u8], at: usize) -> Span
     Span { start, size }
 }
 
-fn entry_span(list: &[u64], at: usize) -> Span
-    requires { ⌜ at + 9 ≤ length (now list) ⌝ }
-    ensures { λ r. ⌜ r ≡ entrySpan (now (list .entry)) at ⌝ }
+fn entry_span(e: Entry) -> Span
+    ensures { λ r. ⌜ r ≡ entrySpan e ⌝ }
 {
-    let start = list[at + 1] as usize;
-    let size = list[at + 2] as usize;
+    let start = e.digest_start as usize;
+    let size = e.digest_length as usize;
     Span { start, size }
 }
 
@@ -67,7 +67,7 @@ pub fn digest_span(kind: Kind, bytes: &[u8], list: &[u64], k: usize) -> Span
 {
     match kind {
         Kind::Records(at) => record_span(bytes, at + Record::SIZE * k),
-        Kind::Entries => entry_span(list, 9 * k),
+        Kind::Entries => entry_span(Entry::at(list, k)),
     }
 }
 

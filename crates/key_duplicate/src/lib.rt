@@ -6,6 +6,7 @@
 ghost use mathlib.Core.Path.{_≡_};
 ghost use Prim.Native.Nat.{_≤_};
 ghost use Rattle.answer.specs.Rules.{firstOver};
+ghost use Rattle.segment.specs.Format.{recordLimit};
 ghost use Rattle.segment.specs.Keys.{freshKey};
 ghost use Rattle.key.specs.Items.{Items, itemKey, itemPlace};
 ghost use Rattle.key_duplicate.specs.Known.{Known};
@@ -47,7 +48,7 @@ fn scan_keys(kind: Kind, bytes: &[u8], list: &[u64], known: usize, n: usize) -> 
 // The first of n items whose key stands earlier, if there is one.
 pub fn check_keys(kind: Kind, bytes: &[u8], list: &[u64], n: usize) -> Verdict
     requires { ⌜ Items kind (now bytes) (now list) n ⌝ }
-    requires { ⌜ n ≤ 65536 ⌝ }
+    requires { ⌜ n ≤ recordLimit ⌝ }
     ensures { λ r. ⌜ r ≡ firstOver n (freshKey (itemKey kind (now (bytes .entry)) (now (list .entry))) (itemPlace kind)) ⌝ }
 {
     if n <= FEW {

@@ -70,7 +70,7 @@ pub fn put_hints(kind: Kind, bytes: &[u8], list: &[u64], hints: &mut [u32])
 }
 
 // Whether item i comes no later than item j. Only where their hints are equal are the keys asked.
-pub fn comes_first(
+pub fn hinted_first(
     kind: Kind,
     bytes: &[u8],
     list: &[u64],

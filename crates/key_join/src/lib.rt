@@ -34,11 +34,12 @@ pub fn join(
     requires { ⌜ AllHinted kind (now bytes) (now list) (now hints) (now numbers) ⌝ }
     requires { ⌜ Joins (itemLeq kind (now bytes) (now list)) m (now numbers) ⌝ }
     requires { ⌜ length (now numbers) ≤ length (now spare) ⌝ }
-    ensures { λ _. ⌜ now (numbers .exit) ≡ mergeBy (itemLeq kind (now (bytes .entry)) (now (list .entry))) (take m (now (numbers .entry))) (drop m (now (numbers .entry))) ⌝ }
+    ensures { λ _. ⌜ now (numbers .exit) ≡ mergeBy (itemLeq kind (now (bytes .entry)) (now (list .entry)))
+        (take m (now (numbers .entry))) (drop m (now (numbers .entry))) ⌝ }
 {
     let last = numbers[m - 1] as usize;
     let next = numbers[m] as usize;
-    if key_hint::comes_first(kind, bytes, list, hints, last, next) {
+    if key_hint::hinted_first(kind, bytes, list, hints, last, next) {
         return;
     }
     let halves = &numbers[..];

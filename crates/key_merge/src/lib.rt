@@ -29,7 +29,7 @@ fn left_next(
     if b.len() <= j {
         return true;
     }
-    key_hint::comes_first(kind, bytes, list, hints, a[i] as usize, b[j] as usize)
+    key_hint::hinted_first(kind, bytes, list, hints, a[i] as usize, b[j] as usize)
 }
 
 // Two sorted lists of item numbers into one, at the front of `out`.
@@ -45,7 +45,8 @@ pub fn merge(
     requires { ⌜ AllHinted kind (now bytes) (now list) (now hints) (now a) ⌝ }
     requires { ⌜ AllHinted kind (now bytes) (now list) (now hints) (now b) ⌝ }
     requires { ⌜ length (now a) + length (now b) ≤ length (now out) ⌝ }
-    ensures { λ _. ⌜ take (length (now (a .entry)) + length (now (b .entry))) (now (out .exit)) ≡ mergeBy (itemLeq kind (now (bytes .entry)) (now (list .entry))) (now (a .entry)) (now (b .entry)) ⌝ }
+    ensures { λ _. ⌜ take (length (now (a .entry)) + length (now (b .entry))) (now (out .exit)) ≡
+        mergeBy (itemLeq kind (now (bytes .entry)) (now (list .entry))) (now (a .entry)) (now (b .entry)) ⌝ }
 {
     let n = a.len() + b.len();
     let mut i = 0;

@@ -3,11 +3,15 @@
 ghost use mathlib.Core.Path.{_≡_};
 ghost use Prim.Native.Nat.{_≤_, _-_};
 ghost use lib.ListN.{length};
+ghost use Rattle.segment.specs.Format.{recordLimit};
 ghost use Rattle.key.specs.Items.{Items};
 ghost use Rattle.key.specs.ItemOrder.{itemLeq};
 ghost use Rattle.key_merge.specs.Order.{AllHinted};
 ghost use Rattle.key_repeat.specs.Falls.{lowestFall, sortedFall};
 use key::Kind;
+
+// As many items as a segment can have.
+const MOST: usize = segment::MOST_RECORDS as usize;
 
 // The lowest of the numbers whose item comes no later than that of the number before it; if there is none, as many as there are
 // numbers.
@@ -21,7 +25,7 @@ fn lowest_fall(kind: Kind, bytes: &[u8], list: &[u64], hints: &[u32], numbers: &
         let before = numbers[k] as usize;
         k += 1;
         let x = numbers[k] as usize;
-        if key_hint::comes_first(kind, bytes, list, hints, x, before) {
+        if key_hint::hinted_first(kind, bytes, list, hints, x, before) {
             if x < least {
                 least = x;
             }
@@ -42,7 +46,7 @@ fn sorted_fall(
     requires { ⌜ Items kind (now bytes) (now list) (length (now numbers)) ⌝ }
     requires { ⌜ length (now hints) ≡ length (now numbers) ⌝ }
     requires { ⌜ length (now numbers) ≤ length (now spare) ⌝ }
-    requires { ⌜ length (now numbers) ≤ 65536 ⌝ }
+    requires { ⌜ length (now numbers) ≤ recordLimit ⌝ }
     ensures { λ r. ⌜ r ≡ sortedFall (itemLeq kind (now (bytes .entry)) (now (list .entry))) (length (now (numbers .entry))) ⌝ }
 {
     key_sort::sorted(kind, bytes, list, hints, numbers, spare);
@@ -71,12 +75,12 @@ fn fall_of_few(kind: Kind, bytes: &[u8], list: &[u64], n: usize) -> usize
 // With hints and numbers for as many items as a segment can have.
 fn fall_of_many(kind: Kind, bytes: &[u8], list: &[u64], n: usize) -> usize
     requires { ⌜ Items kind (now bytes) (now list) n ⌝ }
-    requires { ⌜ n ≤ 65536 ⌝ }
+    requires { ⌜ n ≤ recordLimit ⌝ }
     ensures { λ r. ⌜ r ≡ sortedFall (itemLeq kind (now (bytes .entry)) (now (list .entry))) n ⌝ }
 {
-    let mut hints = [0u32; 65536];
-    let mut numbers = [0u16; 65536];
-    let mut spare = [0u16; 65536];
+    let mut hints = [0u32; MOST];
+    let mut numbers = [0u16; MOST];
+    let mut spare = [0u16; MOST];
     sorted_fall(
         kind,
         bytes,
@@ -90,7 +94,7 @@ fn fall_of_many(kind: Kind, bytes: &[u8], list: &[u64], n: usize) -> usize
 // How many items at the beginning are known to have keys that stand nowhere earlier, by the sorted order of all.
 pub fn known_fresh(kind: Kind, bytes: &[u8], list: &[u64], n: usize) -> usize
     requires { ⌜ Items kind (now bytes) (now list) n ⌝ }
-    requires { ⌜ n ≤ 65536 ⌝ }
+    requires { ⌜ n ≤ recordLimit ⌝ }
     ensures { λ r. ⌜ r ≡ sortedFall (itemLeq kind (now (bytes .entry)) (now (list .entry))) n ⌝ }
 {
     if n <= 256 {

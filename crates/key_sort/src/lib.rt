@@ -3,6 +3,7 @@ ghost use mathlib.Core.Path.{_≡_};
 ghost use Prim.Native.Nat.{_≤_};
 ghost use lib.ListN.{length};
 ghost use Rattle.lists.specs.Lists.{sortBy, countFrom};
+ghost use Rattle.segment.specs.Format.{recordLimit};
 ghost use Rattle.key.specs.Items.{Items};
 ghost use Rattle.key.specs.ItemOrder.{itemLeq};
 ghost use Rattle.key_merge.specs.Order.{AllHinted};
@@ -11,7 +12,7 @@ use key::Kind;
 
 // 0, 1, 2 and so on.
 fn count_up(numbers: &mut [u16])
-    requires { ⌜ length (now numbers) ≤ 65536 ⌝ }
+    requires { ⌜ length (now numbers) ≤ recordLimit ⌝ }
     ensures { λ _. ⌜ now (numbers .exit) ≡ countFrom 0 (length (now (numbers .entry))) ⌝ }
 {
     let mut k = 0;
@@ -57,7 +58,7 @@ pub fn sorted(
     requires { ⌜ Items kind (now bytes) (now list) (length (now numbers)) ⌝ }
     requires { ⌜ length (now hints) ≡ length (now numbers) ⌝ }
     requires { ⌜ length (now numbers) ≤ length (now spare) ⌝ }
-    requires { ⌜ length (now numbers) ≤ 65536 ⌝ }
+    requires { ⌜ length (now numbers) ≤ recordLimit ⌝ }
     ensures { λ _. ⌜ Sorted kind (now (bytes .entry)) (now (list .entry)) (length (now (numbers .entry))) (now (hints .exit)) (now (numbers .exit)) ⌝ }
 {
     key_hint::put_hints(kind, bytes, list, hints);

@@ -25,7 +25,8 @@ pub fn put_pair(a: u64, b: u64, end: u8, at: usize, out: &mut [u8]) -> usize
 // A number behind its name.
 fn put_named(name: &[u8], n: u64, end: u8, at: usize, out: &mut [u8]) -> usize
     requires { ⌜ at + length (now name) + 22 ≤ length (now out) ⌝ }
-    ensures { λ r. ⌜ Appended (length (now (name .entry)) + 22) (now (out .entry)) at (cell (now (name .entry)) ++ (decimal n ++ (end ∷ []))) (now (out .exit)) r ⌝ }
+    ensures { λ r. ⌜ Appended (length (now (name .entry)) + 22) (now (out .entry)) at
+        (cell (now (name .entry)) ++ (decimal n ++ (end ∷ []))) (now (out .exit)) r ⌝ }
 {
     let p1 = list_digits::put_word(name, BLANK, at, out);
     list_digits::put_number(n, end, p1, out)

@@ -25,7 +25,8 @@ pub const LONGEST: usize = 2169;
 // The listing of a checked segment from a place on, as many whole lines as there is room for a longest one.
 pub fn fill(pairs: &[u64], seg: &[u8], place: Place, out: &mut [u8]) -> Stop
     requires { ⌜ checked (now pairs) (now seg) ≡ Accepted ⌝ }
-    ensures { λ r. ⌜ Stopped (length (now (out .entry))) (filled (meaningOf v3 (now (seg .entry))) place (length (now (out .entry)))) (now (out .entry)) 0 (now (out .exit)) r ⌝ }
+    ensures { λ r. ⌜ Stopped (length (now (out .entry))) (filled (meaningOf v3 (now (seg .entry))) place (length (now (out .entry))))
+        (now (out .entry)) 0 (now (out .exit)) r ⌝ }
 {
     let h = Header::of(seg);
     let mut next = place;

@@ -21,7 +21,7 @@ use Rattle.lists.specs.Lists.{Each}
 use Rattle.put_item.specs.declared.Sizes.{Sizes}
 use Rattle.put_item.specs.Lines.{itemRow, itemRows, Lines, measured}
 use Rattle.put_item.proofs.ItemRows.{digests-come, extents-come, visibility-comes}
-use Rattle.put_form.specs.Emit.{Moderate, headerFor, Plan, Wrote}
+use Rattle.put_form.specs.Emit.{Moderate, headerFor, Plan, Emitted}
 
 module _ (kind : Kind) (bytes list extents : List ℕ) where
   small : (numbers : List ℕ) → Lines kind bytes list extents numbers
@@ -127,15 +127,15 @@ module _ (kind : Kind) (bytes list extents : List ℕ) where
 -- ---- the answers
 
 module _ (form out : List ℕ) where
-  pub too-large : 1073741824 < length form → Wrote form out out (Refused (refusal Large 0))
+  pub too-large : 1073741824 < length form → Emitted form out out (Refused (refusal Large 0))
   unfolding settled roomVerdict
   too-large h = record { answer = simp tests; output = refl }
 
-  pub no-room : length form ≤ 1073741824 → length out < length form → Wrote form out out (Refused (refusal Room 0))
+  pub no-room : length form ≤ 1073741824 → length out < length form → Emitted form out out (Refused (refusal Room 0))
   unfolding settled roomVerdict
   no-room h l = record { answer = simp tests; output = refl }
 
-  pub written : (n : ℕ) (p : List ℕ) → n ≡ length form → length form ≤ 1073741824 → length form ≤ length out → p ≡ form → Wrote form out (p ++ drop n out) (Done n)
+  pub written : (n : ℕ) (p : List ℕ) → n ≡ length form → length form ≤ 1073741824 → length form ≤ length out → p ≡ form → Emitted form out (p ++ drop n out) (Done n)
   unfolding settled roomVerdict
   written n p e h l q = record { answer = simp (tests, e); output = rw q }
 

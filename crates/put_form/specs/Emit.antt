@@ -3,7 +3,7 @@
 --   headerFor         the header over so many bloom bytes and records that come to some sizes
 --   Plan              a header whose sections are those of rows, in a file of so many bytes
 --   sectionsUnder, bodyUnder   the three sections of rows, and everything before the footer, under such a header
---   Left, Wrote       what write and tidy answer and leave of a form and an output
+--   Left, Emitted       what write and tidy answer and leave of a form and an output
 -- Assumes nothing: these are definitions.
 use Prim.Native.Nat.{ℕ, _+_, _*_, _≤_}
 use mathlib.Core.Path.{_≡_}
@@ -52,5 +52,5 @@ pub record Left (v : Verdict) (form out after : List ℕ) (w : Written) : Type 0
   pub output : after ≡ outputAfter w form out
 
 -- and where nothing before the size is refused
-abbrev pub Wrote : List ℕ → List ℕ → List ℕ → Written → Type 0
-Wrote form out after w = Left Accepted form out after w
+abbrev pub Emitted : List ℕ → List ℕ → List ℕ → Written → Type 0
+Emitted form out after w = Left Accepted form out after w

@@ -4,10 +4,10 @@ ghost use mathlib.Core.Path.{_≡_};
 ghost use Prim.Native.Nat.{_+_, _≤_};
 ghost use lib.ListN.{length};
 ghost use Rattle.numbers.specs.Numbers.{put};
-ghost use Rattle.segment.specs.Format.{v3, recordsOffset};
+ghost use Rattle.segment.specs.Format.{v3, recordsOffset, recordLimit};
 ghost use Rattle.segment.specs.Tidy.{lacking, formHeader, formOf};
 ghost use Rattle.put_item.specs.Lines.{itemRows, Lines};
-ghost use Rattle.put_form.specs.Emit.{Moderate, headerFor, Plan, sectionsUnder, bodyUnder, Wrote};
+ghost use Rattle.put_form.specs.Emit.{Moderate, headerFor, Plan, sectionsUnder, bodyUnder, Emitted};
 use answer::Refusal;
 use answer::Rule;
 use answer::Written;
@@ -74,7 +74,8 @@ fn put_sections(
 )
     requires { ⌜ Lines kind (now bytes) (now list) (now extents) (now numbers) ⌝ }
     requires { ⌜ Plan h (itemRows kind (now bytes) (now list) (now extents) (now numbers)) used (length (now out)) ⌝ }
-    ensures { λ _. ⌜ now (out .exit) ≡ put (now (out .entry)) (recordsOffset h) (sectionsUnder h (itemRows kind (now (bytes .entry)) (now (list .entry)) (now (extents .entry)) (now (numbers .entry)))) ⌝ }
+    ensures { λ _. ⌜ now (out .exit) ≡ put (now (out .entry)) (recordsOffset h)
+        (sectionsUnder h (itemRows kind (now (bytes .entry)) (now (list .entry)) (now (extents .entry)) (now (numbers .entry)))) ⌝ }
 {
     let r = h.records_offset.0 as usize;
     let d = h.digests_offset.0 as usize;
@@ -100,7 +101,8 @@ fn put_body(
     requires { ⌜ Lines kind (now bytes) (now list) (now extents) (now numbers) ⌝ }
     requires { ⌜ Plan h (itemRows kind (now bytes) (now list) (now extents) (now numbers)) used (length (now out)) ⌝ }
     requires { ⌜ recordsOffset h ≡ 112 + length (now bloom) ⌝ }
-    ensures { λ _. ⌜ now (out .exit) ≡ put (now (out .entry)) 0 (bodyUnder h (now (bloom .entry)) (itemRows kind (now (bytes .entry)) (now (list .entry)) (now (extents .entry)) (now (numbers .entry)))) ⌝ }
+    ensures { λ _. ⌜ now (out .exit) ≡ put (now (out .entry)) 0
+        (bodyUnder h (now (bloom .entry)) (itemRows kind (now (bytes .entry)) (now (list .entry)) (now (extents .entry)) (now (numbers .entry)))) ⌝ }
 {
     put_fields::put_header(h, out);
     put_sections::copy_bytes(bloom, Header::SIZE, out);
@@ -123,7 +125,8 @@ fn put_form(
     requires { ⌜ Lines kind (now bytes) (now list) (now extents) (now numbers) ⌝ }
     requires { ⌜ Plan h (itemRows kind (now bytes) (now list) (now extents) (now numbers)) used (length (now out)) ⌝ }
     requires { ⌜ h ≡ formHeader v3 t (length (now bloom)) (itemRows kind (now bytes) (now list) (now extents) (now numbers)) ⌝ }
-    ensures { λ _. ⌜ now (out .exit) ≡ formOf v3 t (now (bloom .entry)) (itemRows kind (now (bytes .entry)) (now (list .entry)) (now (extents .entry)) (now (numbers .entry))) ⌝ }
+    ensures { λ _. ⌜ now (out .exit) ≡ formOf v3 t (now (bloom .entry))
+        (itemRows kind (now (bytes .entry)) (now (list .entry)) (now (extents .entry)) (now (numbers .entry))) ⌝ }
 {
     put_body(h, bloom, used, kind, bytes, list, extents, numbers, out);
     let body = out.len() - Footer::SIZE;
@@ -149,8 +152,10 @@ pub fn emit(
     out: &mut [u8],
 ) -> Written
     requires { ⌜ Lines kind (now bytes) (now list) (now extents) (now numbers) ⌝ }
-    requires { ⌜ length (now numbers) ≤ 65536 ⌝ }
-    ensures { λ r. ⌜ Wrote (formOf v3 t (now (bloom .entry)) (itemRows kind (now (bytes .entry)) (now (list .entry)) (now (extents .entry)) (now (numbers .entry)))) (now (out .entry)) (now (out .exit)) r ⌝ }
+    requires { ⌜ length (now numbers) ≤ recordLimit ⌝ }
+    ensures { λ r. ⌜ Emitted
+        (formOf v3 t (now (bloom .entry)) (itemRows kind (now (bytes .entry)) (now (list .entry)) (now (extents .entry)) (now (numbers .entry))))
+        (now (out .entry)) (now (out .exit)) r ⌝ }
 {
     let size = bloom.len() as u64;
     if segment::LIMIT < size {

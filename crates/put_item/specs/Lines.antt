@@ -16,7 +16,7 @@ use lib.ListN.{length, take, drop}
 use Rattle.segment.specs.declared.record.Record.{Record}
 use Rattle.segment.specs.declared.extent.Extent.{Extent}
 use Rattle.segment.specs.declared.entry.Entry.{Entry}
-use Rattle.segment.specs.Format.{v3, inFile, recordOf, extentOf, extentsAt}
+use Rattle.segment.specs.Format.{v3, listedSize, inFile, recordOf, extentOf, extentsAt}
 use Rattle.segment.specs.Keys.{keyFrom}
 use Rattle.segment.specs.Check.{sumLengths}
 use Rattle.segment.specs.Meaning.{gone, live, Row, sourceOf}
@@ -56,7 +56,7 @@ itemExtents Entries bytes extents first n = extentsFrom extents first n
 -- they lie in their source
 unfoldable pub Held : Kind → List ℕ → List ℕ → ℕ → ℕ → Type 0
 Held (Records at) bytes extents first n = first + 16 * n ≤ length bytes
-Held Entries bytes extents first n = 3 * (first + n) ≤ length extents
+Held Entries bytes extents first n = listedSize * (first + n) ≤ length extents
 
 -- a record carries its total; an entry's is the sum of its extents
 unfoldable pub itemTotal : Kind → List ℕ → List ℕ → List ℕ → ℕ → ℕ

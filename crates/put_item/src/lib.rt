@@ -5,6 +5,7 @@ ghost use Prim.Native.Nat.{_+_, _*_, _≤_, _<_, max};
 ghost use mathlib.Core.Bool.{cond};
 ghost use lib.Dec.{eqb};
 ghost use lib.ListN.{length};
+ghost use Rattle.segment.specs.Format.{recordLimit, listedSize};
 ghost use Rattle.segment.specs.Check.{sumLengths};
 ghost use Rattle.segment.specs.Tidy.{packed, extentFields};
 ghost use Rattle.segment.specs.Write.{listedExtent, extentsFrom};
@@ -56,10 +57,10 @@ pub fn entry_of(kind: Kind, bytes: &[u8], list: &[u64], k: usize) -> Entry
 
 // An extent of the list, its numbers cut to their fields: its bytes are those of the numbers.
 fn listed_extent(extents: &[u64], j: usize) -> Extent
-    requires { ⌜ 3 * j + 3 ≤ length (now extents) ⌝ }
+    requires { ⌜ listedSize * j + listedSize ≤ length (now extents) ⌝ }
     ensures { λ r. ⌜ packed (extentFields r) ≡ packed (extentFields (listedExtent (now (extents .entry)) j)) ⌝ }
 {
-    let at = 3 * j;
+    let at = Extent::LISTED * j;
     let block = extents[at];
     let offset = BlockOffset((extents[at + 1] % 4294967296) as u32);
     let length = (extents[at + 2] % 4294967296) as u32;
@@ -83,14 +84,14 @@ pub fn extent_of(kind: Kind, bytes: &[u8], extents: &[u64], first: usize, j: usi
 
 // The lengths of some extents of the list, added up.
 fn sum_listed(extents: &[u64], first: usize, count: usize) -> u64
-    requires { ⌜ 3 * (first + count) ≤ length (now extents) ⌝ }
+    requires { ⌜ listedSize * (first + count) ≤ length (now extents) ⌝ }
     requires { ⌜ sumLengths (extentsFrom (now extents) first count) < 18446744073709551616 ⌝ }
     ensures { λ r. ⌜ r ≡ sumLengths (extentsFrom (now (extents .entry)) first count) ⌝ }
 {
     let mut sum: u64 = 0;
     let mut j = 0;
     while j < count {
-        sum += extents[3 * (first + j) + 2];
+        sum += extents[Extent::LISTED * (first + j) + 2];
         j += 1;
     }
     sum
@@ -158,7 +159,7 @@ fn larger(a: u64, b: u64) -> u64
 
 pub fn measure(kind: Kind, bytes: &[u8], list: &[u64], numbers: &[u16]) -> Sizes
     requires { ⌜ Each (Counted kind (now bytes) (now list)) (now numbers) ⌝ }
-    requires { ⌜ length (now numbers) ≤ 65536 ⌝ }
+    requires { ⌜ length (now numbers) ≤ recordLimit ⌝ }
     ensures { λ r. ⌜ r ≡ measured kind (now (bytes .entry)) (now (list .entry)) (now (numbers .entry)) ⌝ }
 {
     let mut digests: u64 = 0;

@@ -51,7 +51,8 @@ pub fn put_records(
     requires { ⌜ Lines kind (now bytes) (now list) (now extents) (now numbers) ⌝ }
     requires { ⌜ Near h (now numbers) ⌝ }
     requires { ⌜ length (now out) ≡ 48 * length (now numbers) ⌝ }
-    ensures { λ _. ⌜ now (out .exit) ≡ recordsBytes v3 (h .domain) (itemRows kind (now (bytes .entry)) (now (list .entry)) (now (extents .entry)) (now (numbers .entry))) (digestsOffset h) (extentsOffset h) ⌝ }
+    ensures { λ _. ⌜ now (out .exit) ≡ recordsBytes v3 (h .domain)
+        (itemRows kind (now (bytes .entry)) (now (list .entry)) (now (extents .entry)) (now (numbers .entry))) (digestsOffset h) (extentsOffset h) ⌝ }
 {
     let mut digest_at = h.digests_offset.0;
     let mut extents_at = h.extents_offset.0;
@@ -114,7 +115,8 @@ fn put_list(
 )
     requires { ⌜ Held kind (now bytes) (now extents) first count ⌝ }
     requires { ⌜ at + 16 * count ≤ length (now out) ⌝ }
-    ensures { λ _. ⌜ now (out .exit) ≡ put (now (out .entry)) at (extentListBytes (itemExtents kind (now (bytes .entry)) (now (extents .entry)) first count)) ⌝ }
+    ensures { λ _. ⌜ now (out .exit) ≡ put (now (out .entry)) at
+        (extentListBytes (itemExtents kind (now (bytes .entry)) (now (extents .entry)) first count)) ⌝ }
 {
     let mut j = 0;
     while j < count {

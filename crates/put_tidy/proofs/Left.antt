@@ -10,14 +10,14 @@ use Rattle.answer.specs.declared.Verdict.the-variants.{Accepted, Refused}
 use Rattle.answer.specs.declared.Written.{Written}
 use Rattle.answer.specs.declared.Written.the-variants.{Refused as NotWritten}
 use Rattle.segment.specs.Tidy.{settled, outputAfter, outcome}
-use Rattle.put_form.specs.Emit.{Left, Wrote}
+use Rattle.put_form.specs.Emit.{Left, Emitted}
 
 module _ (v : Verdict) (form out : List ℕ) where
   pub left-refused : (x : Refusal) → v ≡ Refused x → Left v form out out (NotWritten x)
   unfolding settled
   left-refused x e = record { answer = rw e; output = refl }
 
-  pub left-written : (form′ after : List ℕ) (w : Written) → v ≡ Accepted → form′ ≡ form → Wrote form′ out after w → Left v form out after w
+  pub left-written : (form′ after : List ℕ) (w : Written) → v ≡ Accepted → form′ ≡ form → Emitted form′ out after w → Left v form out after w
   left-written form′ after w e f h = record { answer = rw (e, ← f) (h .answer); output = rw (← f) (h .output) }
 
   -- a verdict that comes to the same

@@ -16,7 +16,7 @@ use Rattle.key_sort.proofs.Counting.{front, front-long}
 use Rattle.key_sort.proofs.Numbered.{sorted-each}
 use Rattle.put_item.specs.Lines.{itemRows, Lines, Line}
 use Rattle.put_item.proofs.ItemRows.{rows-sorted}
-use Rattle.put_form.specs.Emit.{Wrote}
+use Rattle.put_form.specs.Emit.{Emitted}
 use Rattle.put_tidy.specs.ItemsForm.{AllLines, itemsForm}
 
 module _ (kind : Kind) (bytes list extents : List ℕ) (n : ℕ) where
@@ -31,9 +31,9 @@ module _ (kind : Kind) (bytes list extents : List ℕ) (n : ℕ) where
     unfolding itemsForm tidyForm
     sorted-form t bloom = ap (formOf v3 t bloom) (ap (itemRows kind bytes list extents) (s .sorted) ∙ rows-sorted kind bytes list extents (countFrom 0 n))
 
-    pub sorted-wrote : (t : Heading) (bloom out after : List ℕ) (w : Written) → Wrote (formOf v3 t bloom (itemRows kind bytes list extents numbers)) out after w
-        → Wrote (itemsForm t bloom kind bytes list extents n) out after w
-    sorted-wrote t bloom out after w h = subst (λ (f : List ℕ). Wrote f out after w) (sorted-form t bloom) h
+    pub sorted-wrote : (t : Heading) (bloom out after : List ℕ) (w : Written) → Emitted (formOf v3 t bloom (itemRows kind bytes list extents numbers)) out after w
+        → Emitted (itemsForm t bloom kind bytes list extents n) out after w
+    sorted-wrote t bloom out after w h = subst (λ (f : List ℕ). Emitted f out after w) (sorted-form t bloom) h
 
 -- ---- the front of an array of m numbers, lent for n of them
 
@@ -41,6 +41,6 @@ module _ (m n : ℕ) (h : n ≤ m) (kind : Kind) (bytes list extents : List ℕ)
   pub lent-lines : AllLines kind bytes list extents n → AllLines kind bytes list extents (length (front m n))
   lent-lines a = rw (front-long m n h) a
 
-  pub lent-wrote : (t : Heading) (bloom out after : List ℕ) (w : Written) → Wrote (itemsForm t bloom kind bytes list extents (length (front m n))) out after w
-      → Wrote (itemsForm t bloom kind bytes list extents n) out after w
+  pub lent-wrote : (t : Heading) (bloom out after : List ℕ) (w : Written) → Emitted (itemsForm t bloom kind bytes list extents (length (front m n))) out after w
+      → Emitted (itemsForm t bloom kind bytes list extents n) out after w
   lent-wrote t bloom out after w x = rw (front-long m n h) at x

@@ -3,11 +3,15 @@
 ghost use mathlib.Core.Path.{_≡_};
 ghost use Prim.Native.Nat.{_≤_};
 ghost use lib.ListN.{length};
-ghost use Rattle.put_form.specs.Emit.{Wrote};
+ghost use Rattle.segment.specs.Format.{recordLimit};
+ghost use Rattle.put_form.specs.Emit.{Emitted};
 ghost use Rattle.put_tidy.specs.ItemsForm.{AllLines, itemsForm};
 use answer::Written;
 use key::Kind;
 use segment::header::Heading;
+
+// As many items as a segment can have.
+const MOST: usize = segment::MOST_RECORDS as usize;
 
 // As many items as there are numbers, written in tidy order.
 fn arrange(
@@ -25,8 +29,10 @@ fn arrange(
     requires { ⌜ AllLines kind (now bytes) (now list) (now extents) (length (now numbers)) ⌝ }
     requires { ⌜ length (now hints) ≡ length (now numbers) ⌝ }
     requires { ⌜ length (now numbers) ≤ length (now spare) ⌝ }
-    requires { ⌜ length (now numbers) ≤ 65536 ⌝ }
-    ensures { λ r. ⌜ Wrote (itemsForm t (now (bloom .entry)) kind (now (bytes .entry)) (now (list .entry)) (now (extents .entry)) (length (now (numbers .entry)))) (now (out .entry)) (now (out .exit)) r ⌝ }
+    requires { ⌜ length (now numbers) ≤ recordLimit ⌝ }
+    ensures { λ r. ⌜ Emitted
+        (itemsForm t (now (bloom .entry)) kind (now (bytes .entry)) (now (list .entry)) (now (extents .entry)) (length (now (numbers .entry))))
+        (now (out .entry)) (now (out .exit)) r ⌝ }
 {
     key_sort::sorted(kind, bytes, list, hints, numbers, spare);
     put_form::emit(t, bloom, kind, bytes, list, extents, numbers, out)
@@ -45,7 +51,8 @@ fn arrange_few(
 ) -> Written
     requires { ⌜ AllLines kind (now bytes) (now list) (now extents) n ⌝ }
     requires { ⌜ n ≤ 256 ⌝ }
-    ensures { λ r. ⌜ Wrote (itemsForm t (now (bloom .entry)) kind (now (bytes .entry)) (now (list .entry)) (now (extents .entry)) n) (now (out .entry)) (now (out .exit)) r ⌝ }
+    ensures { λ r. ⌜ Emitted (itemsForm t (now (bloom .entry)) kind (now (bytes .entry)) (now (list .entry)) (now (extents .entry)) n)
+        (now (out .entry)) (now (out .exit)) r ⌝ }
 {
     let mut hints = [0u32; 256];
     let mut numbers = [0u16; 256];
@@ -76,12 +83,13 @@ fn arrange_many(
     out: &mut [u8],
 ) -> Written
     requires { ⌜ AllLines kind (now bytes) (now list) (now extents) n ⌝ }
-    requires { ⌜ n ≤ 65536 ⌝ }
-    ensures { λ r. ⌜ Wrote (itemsForm t (now (bloom .entry)) kind (now (bytes .entry)) (now (list .entry)) (now (extents .entry)) n) (now (out .entry)) (now (out .exit)) r ⌝ }
+    requires { ⌜ n ≤ recordLimit ⌝ }
+    ensures { λ r. ⌜ Emitted (itemsForm t (now (bloom .entry)) kind (now (bytes .entry)) (now (list .entry)) (now (extents .entry)) n)
+        (now (out .entry)) (now (out .exit)) r ⌝ }
 {
-    let mut hints = [0u32; 65536];
-    let mut numbers = [0u16; 65536];
-    let mut spare = [0u16; 65536];
+    let mut hints = [0u32; MOST];
+    let mut numbers = [0u16; MOST];
+    let mut spare = [0u16; MOST];
     arrange(
         t,
         bloom,
@@ -108,8 +116,9 @@ pub fn put_tidy(
     out: &mut [u8],
 ) -> Written
     requires { ⌜ AllLines kind (now bytes) (now list) (now extents) n ⌝ }
-    requires { ⌜ n ≤ 65536 ⌝ }
-    ensures { λ r. ⌜ Wrote (itemsForm t (now (bloom .entry)) kind (now (bytes .entry)) (now (list .entry)) (now (extents .entry)) n) (now (out .entry)) (now (out .exit)) r ⌝ }
+    requires { ⌜ n ≤ recordLimit ⌝ }
+    ensures { λ r. ⌜ Emitted (itemsForm t (now (bloom .entry)) kind (now (bytes .entry)) (now (list .entry)) (now (extents .entry)) n)
+        (now (out .entry)) (now (out .exit)) r ⌝ }
 {
     if n <= 256 {
         return arrange_few(t, bloom, kind, bytes, list, extents, n, out);

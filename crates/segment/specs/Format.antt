@@ -35,6 +35,13 @@ fileLimit = 1073741824
 abbrev pub recordLimit : ℕ
 recordLimit = 65536
 
+-- the numbers of an entry, and of an extent, in the flat lists that write is lent
+abbrev pub entrySize : ℕ
+entrySize = 9
+
+abbrev pub listedSize : ℕ
+listedSize = 3
+
 -- one more than the largest u32: where a block ends at the latest
 abbrev pub blockEnd : ℕ
 blockEnd = 4294967296

@@ -20,7 +20,7 @@ use Rattle.answer.specs.Answers.{refusal}
 use Rattle.segment.specs.declared.header.Heading.{Heading}
 use Rattle.segment.specs.declared.entry.Entry.{Entry}
 use Rattle.segment.specs.declared.extent.Extent.{Extent}
-use Rattle.segment.specs.Format.{Shape, v3, recordLimit, inBlock}
+use Rattle.segment.specs.Format.{Shape, v3, recordLimit, entrySize, listedSize, inBlock}
 use Rattle.table.specs.Table.{tableVerdict, allows}
 use Rattle.segment.specs.Keys.{Key, keyOf, keyFrom, freshKey}
 use Rattle.segment.specs.Check.{extentFits, sumLengths}
@@ -35,28 +35,28 @@ pub record Request : Type 0 where
   pub digests : List ℕ
   pub extents : List ℕ
 
--- the whole items of a flat list: nine numbers to an entry, three to an extent
+-- the whole items of a flat list
 abbrev pub entryCount : List ℕ → ℕ
-entryCount xs = length xs / 9
+entryCount xs = length xs / entrySize
 
 abbrev pub listedExtents : List ℕ → ℕ
-listedExtents xs = length xs / 3
+listedExtents xs = length xs / listedSize
 
 unfoldable pub entryNo : List ℕ → ℕ → Entry
 entryNo xs k = record {
-  «hash_id» = getD xs (9 * k) 0;
-  «digest_start» = getD xs (9 * k + 1) 0;
-  «digest_length» = getD xs (9 * k + 2) 0;
-  visibility = getD xs (9 * k + 3) 0;
-  imported = getD xs (9 * k + 4) 0;
-  source = getD xs (9 * k + 5) 0;
-  gone = getD xs (9 * k + 6) 0;
-  «first_extent» = getD xs (9 * k + 7) 0;
-  «extent_count» = getD xs (9 * k + 8) 0;
+  «hash_id» = getD xs (entrySize * k) 0;
+  «digest_start» = getD xs (entrySize * k + 1) 0;
+  «digest_length» = getD xs (entrySize * k + 2) 0;
+  visibility = getD xs (entrySize * k + 3) 0;
+  imported = getD xs (entrySize * k + 4) 0;
+  source = getD xs (entrySize * k + 5) 0;
+  gone = getD xs (entrySize * k + 6) 0;
+  «first_extent» = getD xs (entrySize * k + 7) 0;
+  «extent_count» = getD xs (entrySize * k + 8) 0;
 }
 
 unfoldable pub listedExtent : List ℕ → ℕ → Extent
-listedExtent xs j = record { block = getD xs (3 * j) 0; offset = inBlock (getD xs (3 * j + 1) 0); length = getD xs (3 * j + 2) 0 }
+listedExtent xs j = record { block = getD xs (listedSize * j) 0; offset = inBlock (getD xs (listedSize * j + 1) 0); length = getD xs (listedSize * j + 2) 0 }
 
 -- n extents of a flat list, from the j-th on
 unfoldable pub extentsFrom : List ℕ → ℕ → ℕ → List Extent

@@ -2,6 +2,7 @@
 ghost use mathlib.Core.Path.{_≡_};
 ghost use Prim.Native.Nat.{_+_, _*_, _≤_, _<_};
 ghost use lib.ListN.{length, getD};
+ghost use Rattle.segment.specs.Format.{entrySize};
 ghost use Rattle.segment.specs.Write.{entryNo, entryPlace};
 
 pub struct Entry {
@@ -21,7 +22,7 @@ impl Entry {
 
     // Entry k of a list.
     pub fn at(list: &[u64], k: usize) -> Self
-        requires { ⌜ 9 * k + 9 ≤ length (now list) ⌝ }
+        requires { ⌜ entrySize * k + entrySize ≤ length (now list) ⌝ }
         ensures { λ r. ⌜ r ≡ entryNo (now (list .entry)) k ⌝ }
     {
         Self {
@@ -40,9 +41,9 @@ impl Entry {
 
 // A number of entry k.
 fn number(list: &[u64], k: usize, field: usize) -> u64
-    requires { ⌜ 9 * k + 9 ≤ length (now list) ⌝ }
-    requires { ⌜ field < 9 ⌝ }
-    ensures { λ r. ⌜ r ≡ getD (now (list .entry)) (9 * k + field) 0 ⌝ }
+    requires { ⌜ entrySize * k + entrySize ≤ length (now list) ⌝ }
+    requires { ⌜ field < entrySize ⌝ }
+    ensures { λ r. ⌜ r ≡ getD (now (list .entry)) (entrySize * k + field) 0 ⌝ }
 {
     list[Entry::SIZE * k + field]
 }

@@ -14,6 +14,9 @@ pub struct Extent {
 impl Extent {
     pub const SIZE: usize = 16;
 
+    // The numbers of an extent in a flat list: block, offset and length.
+    pub const LISTED: usize = 3;
+
     // Its size as wide as the header's numbers.
     pub const LONG: u64 = Extent::SIZE as u64;
 

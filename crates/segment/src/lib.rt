@@ -7,5 +7,8 @@ pub mod header;
 pub mod record;
 pub mod step;
 
+// As many records as a segment may have.
+pub const MOST_RECORDS: u64 = 65536;
+
 // A segment's length at the most: one GiB.
 pub const LIMIT: u64 = 1073741824;

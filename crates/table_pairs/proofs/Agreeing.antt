@@ -16,16 +16,16 @@ use Rattle.table.proofs.Pairs.{front-is}
 use Rattle.table_pairs.specs.declared.Pair.{Pair}
 use Rattle.table_pairs.specs.declared.Length.{Length}
 use Rattle.table_pairs.specs.declared.Length.the-variants.{Known, Unknown}
-use Rattle.table_pairs.specs.Pairs.{lengthIn, lengthAnswer, lengthOf, flat}
+use Rattle.table_pairs.specs.Pairs.{lengthIn, lengthAnswer, lengthOf, pairNumbers}
 
 -- a hash id that stands in no pair has no length
-none-allowed : (pairs : List Pair) (hash n : ℕ) → stands (flat pairs) hash ≡ false → allows (flat pairs) hash n ≡ false
-unfolding stands allows flat
+none-allowed : (pairs : List Pair) (hash n : ℕ) → stands (pairNumbers pairs) hash ≡ false → allows (pairNumbers pairs) hash n ≡ false
+unfolding stands allows pairNumbers
 none-allowed [] hash n e = refl
 none-allowed (p ∷ pairs) hash n e = go (eqb (p .«hash_id») hash) (none-allowed pairs hash n) e
   where
-    go : (b : Bool) → (stands (flat pairs) hash ≡ false → allows (flat pairs) hash n ≡ false) → (b || stands (flat pairs) hash) ≡ false
-        → ((b && eqb (p .«digest_length») n) || allows (flat pairs) hash n) ≡ false
+    go : (b : Bool) → (stands (pairNumbers pairs) hash ≡ false → allows (pairNumbers pairs) hash n ≡ false) → (b || stands (pairNumbers pairs) hash) ≡ false
+        → ((b && eqb (p .«digest_length») n) || allows (pairNumbers pairs) hash n) ≡ false
     go true later e = cc
     go false later e = later e
 
@@ -36,16 +36,16 @@ or-none false c e = (λ f. sym e ∙ f, λ f. cc)
 known-same : (m n : ℕ) → eqb m n ≡ true ↔ Known m ≡ Known n
 known-same m n = (λ e. ap Known (eqb-iff m n .0 e), λ e. eqb-iff m n .1 (cc))
 
-known-in : (pairs : List Pair) (hash n : ℕ) → goodPairs (flat pairs) ≡ true → allows (flat pairs) hash n ≡ true ↔ lengthIn pairs hash ≡ Known n
-unfolding goodPairs allows flat lengthIn
+known-in : (pairs : List Pair) (hash n : ℕ) → goodPairs (pairNumbers pairs) ≡ true → allows (pairNumbers pairs) hash n ≡ true ↔ lengthIn pairs hash ≡ Known n
+unfolding goodPairs allows pairNumbers lengthIn
 known-in [] hash n g = (λ e. cc, λ e. cc)
 known-in (p ∷ pairs) hash n g =
     let rest = (simp and-iff at g) .1 in
     by-test (eqb (p .«hash_id») hash)
     (λ same.
     let is : hash ≡ p .«hash_id» = sym (eqb-iff (p .«hash_id») hash .0 same) in
-    let alone : stands (flat pairs) hash ≡ false = ap (stands (flat pairs)) is ∙ flag-false (stands (flat pairs) (p .«hash_id»)) (rest .0) in
-    let last = or-none (eqb (p .«digest_length») n) (allows (flat pairs) hash n) (none-allowed pairs hash n alone) in
+    let alone : stands (pairNumbers pairs) hash ≡ false = ap (stands (pairNumbers pairs)) is ∙ flag-false (stands (pairNumbers pairs) (p .«hash_id»)) (rest .0) in
+    let last = or-none (eqb (p .«digest_length») n) (allows (pairNumbers pairs) hash n) (none-allowed pairs hash n alone) in
     rw same (λ e. known-same (p .«digest_length») n .0 (last .0 e), λ e. last .1 (known-same (p .«digest_length») n .1 e)))
     (λ other. rw other (known-in pairs hash n (rest .1)))
 
@@ -54,24 +54,24 @@ told : (r : Length) → ((n : ℕ) → r ≡ Known n → ⊥) → r ≡ Unknown
 told (Known n) h = absurd (h n refl)
 told Unknown h = refl
 
-module _ (pairs : List Pair) (hash : ℕ) (g : goodTable (flat pairs) ≡ true) where
-  pub known-iff : (n : ℕ) → allows (flat pairs) hash n ≡ true ↔ lengthIn pairs hash ≡ Known n
+module _ (pairs : List Pair) (hash : ℕ) (g : goodTable (pairNumbers pairs) ≡ true) where
+  pub known-iff : (n : ℕ) → allows (pairNumbers pairs) hash n ≡ true ↔ lengthIn pairs hash ≡ Known n
   unfolding goodTable
   known-iff n = known-in pairs hash n ((simp and-iff at g) .1 .1)
 
-  pub unknown-iff : ((n : ℕ) → allows (flat pairs) hash n ≡ false) ↔ lengthIn pairs hash ≡ Unknown
+  pub unknown-iff : ((n : ℕ) → allows (pairNumbers pairs) hash n ≡ false) ↔ lengthIn pairs hash ≡ Unknown
   unknown-iff = (
     λ none. told (lengthIn pairs hash) (λ n e. false≢true (sym (none n) ∙ known-iff n .1 e)),
-    λ e n. by-test (allows (flat pairs) hash n) (λ a. let z : Known n ≡ Unknown = sym (known-iff n .0 a) ∙ e in cc) (λ a. a),
+    λ e n. by-test (allows (pairNumbers pairs) hash n) (λ a. let z : Known n ≡ Unknown = sym (known-iff n .0 a) ∙ e in cc) (λ a. a),
   )
 
--- the same of the table by value that the flat list is copied into
-module _ (pairs : List Pair) (hash : ℕ) (numbers : List ℕ) (e : numbers ≡ byValue (flat pairs)) (g : goodTable (flat pairs) ≡ true) where
-  pub table-known-iff : (n : ℕ) → allows (take (length (flat pairs)) numbers) hash n ≡ true ↔ lengthIn pairs hash ≡ Known n
-  table-known-iff n = rw (front-is (flat pairs) numbers e) (known-iff pairs hash g n)
+-- the same of the table by value that the pairNumbers list is copied into
+module _ (pairs : List Pair) (hash : ℕ) (numbers : List ℕ) (e : numbers ≡ byValue (pairNumbers pairs)) (g : goodTable (pairNumbers pairs) ≡ true) where
+  pub table-known-iff : (n : ℕ) → allows (take (length (pairNumbers pairs)) numbers) hash n ≡ true ↔ lengthIn pairs hash ≡ Known n
+  table-known-iff n = rw (front-is (pairNumbers pairs) numbers e) (known-iff pairs hash g n)
 
-  pub table-unknown-iff : ((n : ℕ) → allows (take (length (flat pairs)) numbers) hash n ≡ false) ↔ lengthIn pairs hash ≡ Unknown
-  table-unknown-iff = rw (front-is (flat pairs) numbers e) (unknown-iff pairs hash g)
+  pub table-unknown-iff : ((n : ℕ) → allows (take (length (pairNumbers pairs)) numbers) hash n ≡ false) ↔ lengthIn pairs hash ≡ Unknown
+  table-unknown-iff = rw (front-is (pairNumbers pairs) numbers e) (unknown-iff pairs hash g)
 
 -- ---- one answer only
 

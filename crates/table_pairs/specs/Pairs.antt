@@ -1,7 +1,7 @@
 -- The store's table as a list of pairs, hash id and digest length.
 --   lengthIn       the digest length for a hash id: that of the first pair that has it
 --   lengthAnswer   the same in numbers: answered with the length, or with no value
---   flat           the pairs as a flat list of numbers, two to a pair
+--   pairNumbers           the pairs as a pairNumbers list of numbers, two to a pair
 -- Assumes nothing: these are definitions.
 use Prim.Native.Nat.{ℕ}
 use mathlib.Core.Bool.{cond}
@@ -23,6 +23,6 @@ lengthAnswer Unknown = answered []
 unfoldable pub lengthOf : List Pair → ℕ → Answer
 lengthOf pairs hash = lengthAnswer (lengthIn pairs hash)
 
-unfoldable pub flat : List Pair → List ℕ
-flat [] = []
-flat (p ∷ pairs) = p .«hash_id» ∷ p .«digest_length» ∷ flat pairs
+unfoldable pub pairNumbers : List Pair → List ℕ
+pairNumbers [] = []
+pairNumbers (p ∷ pairs) = p .«hash_id» ∷ p .«digest_length» ∷ pairNumbers pairs

@@ -37,7 +37,8 @@ fn heading_of(seg: &[u8], h: Header) -> Heading
 // Everything but the table. Records are read from the segment alone, so that the two lists of entries and extents are not read.
 fn tidy_under(pairs: &[u64], seg: &[u8], out: &mut [u8]) -> Written
     requires { ⌜ goodTable (now pairs) ≡ true ⌝ }
-    ensures { λ r. ⌜ Left (segmentVerdict v3 (now (pairs .entry)) (now (seg .entry))) (tidyForm v3 (meaningOf v3 (now (seg .entry)))) (now (out .entry)) (now (out .exit)) r ⌝ }
+    ensures { λ r. ⌜ Left (segmentVerdict v3 (now (pairs .entry)) (now (seg .entry))) (tidyForm v3 (meaningOf v3 (now (seg .entry))))
+        (now (out .entry)) (now (out .exit)) r ⌝ }
 {
     match check_segment::check_segment(pairs, seg) {
         Verdict::Refused(x) => {

@@ -49,17 +49,17 @@ ltb-not : (a b : ℕ) → ltb a b ≡ false ↔ b ≤ a
 ltb-not a b = (ltb-false a b, le-ltb a b)
 
 module _ (pairs s : List ℕ) (k : ℕ) where
-  pub row-iff : (r : Record) → stepped pairs s k ≡ Row r ↔ (checked pairs s ≡ Accepted) × ((k < recordCount (headerOf s)) × (recordNo v3 s (headerOf s) k ≡ r))
+  pub step-row-iff : (r : Record) → stepped pairs s k ≡ Row r ↔ (checked pairs s ≡ Accepted) × ((k < recordCount (headerOf s)) × (recordNo v3 s (headerOf s) k ≡ r))
   unfolding stepped
-  row-iff r = simp (after-row, ltb-iff) Iff·rfl
+  step-row-iff r = simp (after-row, ltb-iff) Iff·rfl
 
-  pub done-iff : stepped pairs s k ≡ Done ↔ (checked pairs s ≡ Accepted) × (recordCount (headerOf s) ≤ k)
+  pub step-done-iff : stepped pairs s k ≡ Done ↔ (checked pairs s ≡ Accepted) × (recordCount (headerOf s) ≤ k)
   unfolding stepped
-  done-iff = simp (after-done, ltb-not) Iff·rfl
+  step-done-iff = simp (after-done, ltb-not) Iff·rfl
 
-  pub refused-iff : (x : Refusal) → stepped pairs s k ≡ Refused x ↔ checked pairs s ≡ Stopped x
+  pub step-refused-iff : (x : Refusal) → stepped pairs s k ≡ Refused x ↔ checked pairs s ≡ Stopped x
   unfolding stepped
-  refused-iff x = simp after-refused Iff·rfl
+  step-refused-iff x = simp after-refused Iff·rfl
 
 -- ---- the code's three cases, by what check answered
 
@@ -73,26 +73,26 @@ module _ (pairs s : List ℕ) (v : Verdict) (checks : checkAnswer v ≡ checkOf 
 
   module _ (k : ℕ) where
     pub stops : (x : Refusal) → v ≡ Stopped x → Refused x ≡ stepped pairs s k
-    stops x e = sym (refused-iff pairs s k x .1 (sym verdict ∙ e))
+    stops x e = sym (step-refused-iff pairs s k x .1 (sym verdict ∙ e))
 
     module _ (a : v ≡ Accepted) (h : Header) (e : h ≡ headerOf s) where
       pub ends : recordCount h ≤ k → Done ≡ stepped pairs s k
       ends l =
           let n : recordCount (headerOf s) ≤ k = rw e at l in
-          sym (done-iff pairs s k .1 (sym verdict ∙ a, n))
+          sym (step-done-iff pairs s k .1 (sym verdict ∙ a, n))
 
       pub gives : (r : Record) → k < recordCount h → r ≡ recordOf v3 s (recordsOffset h + 48 * k) → Row r ≡ stepped pairs s k
       unfolding recordNo
       gives r l q =
           let n : k < recordCount (headerOf s) = rw e at l in
-          sym (row-iff pairs s k r .1 (sym verdict ∙ a, (n, ap (λ (x : Header). recordOf v3 s (recordsOffset x + 48 * k)) (sym e) ∙ sym q)))
+          sym (step-row-iff pairs s k r .1 (sym verdict ∙ a, (n, ap (λ (x : Header). recordOf v3 s (recordsOffset x + 48 * k)) (sym e) ∙ sym q)))
 
 -- ---- a step, and the place after it
 
 module _ (pairs s : List ℕ) (k : ℕ) (t : Step) (e : t ≡ stepped pairs s k) where
   pub few-rows : (r : Record) → t ≡ Row r → k < 65536
   few-rows r f =
-      let given = row-iff pairs s k r .0 (sym e ∙ f) in
+      let given = step-row-iff pairs s k r .0 (sym e ∙ f) in
       omega (arith, given .1 .0, checked-readable pairs s (given .0) .laid .layout .few)
 
   turned : (p : ℕ) → p ≡ nextPlace t k → _≡_ {A = Turn} (record { step = t; at = p }) (turnOf pairs s k)

@@ -27,7 +27,10 @@ fn write_under(
     out: &mut [u8],
 ) -> Written
     requires { ⌜ goodTable (now pairs) ≡ true ⌝ }
-    ensures { λ r. ⌜ Left (requestRules v3 (now (pairs .entry)) (length (now (bloom .entry))) (now (entries .entry)) (now (digests .entry)) (now (extents .entry))) (tidyForm v3 (requested (asked t (now (bloom .entry)) (now (entries .entry)) (now (digests .entry)) (now (extents .entry))))) (now (out .entry)) (now (out .exit)) r ⌝ }
+    ensures { λ r. ⌜ Left
+        (requestRules v3 (now (pairs .entry)) (length (now (bloom .entry))) (now (entries .entry)) (now (digests .entry)) (now (extents .entry)))
+        (tidyForm v3 (requested (asked t (now (bloom .entry)) (now (entries .entry)) (now (digests .entry)) (now (extents .entry)))))
+        (now (out .entry)) (now (out .exit)) r ⌝ }
 {
     match write_request::check_request(pairs, bloom.len(), entries, digests, extents) {
         Verdict::Refused(x) => {
@@ -50,7 +53,9 @@ pub fn write(
     extents: &[u64],
     out: &mut [u8],
 ) -> Written
-    ensures { λ r. ⌜ outcome r (now (out .exit)) ≡ writeOf (now (pairs .entry)) (asked t (now (bloom .entry)) (now (entries .entry)) (now (digests .entry)) (now (extents .entry))) (now (out .entry)) ⌝ }
+    ensures { λ r. ⌜ outcome r (now (out .exit)) ≡ writeOf (now (pairs .entry))
+        (asked t (now (bloom .entry)) (now (entries .entry)) (now (digests .entry)) (now (extents .entry)))
+        (now (out .entry)) ⌝ }
 {
     if !table::good(pairs) {
         return Written::Refused(Refusal(Rule::Table, 0));

@@ -6,9 +6,7 @@ ghost use Prim.Native.Nat.{_+_, _<_, _≤_};
 ghost use lib.Dec.{ltb, leb};
 ghost use Rattle.segment.specs.Write.{listedExtents, extentsFrom};
 ghost use Rattle.write_entry.specs.Kept.{totalKept};
-
-// The numbers of a listed extent: block, offset and length.
-pub const EXTENT: usize = 3;
+use segment::extent::Extent;
 
 // Whether an extent's offset and length fit their fields, and it lies inside its block.
 fn extent_fits(offset: u64, size: u64) -> bool
@@ -31,7 +29,7 @@ pub fn total_kept(extents: &[u64], first: u64, count: u64) -> bool
     let mut sum: u64 = 0;
     let mut i: u64 = 0;
     while i < count {
-        let at = EXTENT * (first + i) as usize;
+        let at = Extent::LISTED * (first + i) as usize;
         let size = extents[at + 2];
         if !extent_fits(extents[at + 1], size) {
             return false;

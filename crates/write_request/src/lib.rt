@@ -10,16 +10,19 @@ use answer::Verdict;
 use key::Kind;
 use segment::entry;
 use segment::entry::Entry;
+use segment::extent::Extent;
 use write_entry::reach::lists_kept;
-use write_entry::total::EXTENT;
 use write_entry::total::total_kept;
+
+// As many entries as there may be.
+const MOST: usize = segment::MOST_RECORDS as usize;
 
 // One entry, which is refused at a place.
 fn check_entry(pairs: &[u64], digests: &[u8], extents: &[u64], e: Entry, place: u64) -> Verdict
     ensures { λ v. ⌜ v ≡ entryRules v3 (now (pairs .entry)) (now (digests .entry)) (now (extents .entry)) e place ⌝ }
 {
     let bytes = digests.len() as u64;
-    let count = (extents.len() / EXTENT) as u64;
+    let count = (extents.len() / Extent::LISTED) as u64;
     if !write_entry::marks_kept(e.visibility, e.imported, e.gone, e.source) {
         return Verdict::Refused(Refusal(Rule::Record, place));
     }
@@ -47,7 +50,8 @@ fn check_entry(pairs: &[u64], digests: &[u8], extents: &[u64], e: Entry, place: 
 
 // Every whole entry of the list.
 fn check_entries(pairs: &[u64], entries: &[u64], digests: &[u8], extents: &[u64]) -> Verdict
-    ensures { λ r. ⌜ r ≡ firstOver (entryCount (now (entries .entry))) (entryVerdict v3 (now (pairs .entry)) (now (entries .entry)) (now (digests .entry)) (now (extents .entry))) ⌝ }
+    ensures { λ r. ⌜ r ≡ firstOver (entryCount (now (entries .entry)))
+        (entryVerdict v3 (now (pairs .entry)) (now (entries .entry)) (now (digests .entry)) (now (extents .entry))) ⌝ }
 {
     let count = entries.len() / Entry::SIZE;
     let mut k = 0;
@@ -80,7 +84,7 @@ pub fn check_request(
     ensures { λ r. ⌜ r ≡ requestRules v3 (now (pairs .entry)) bloom (now (entries .entry)) (now (digests .entry)) (now (extents .entry)) ⌝ }
 {
     let n = entries.len() / Entry::SIZE;
-    if 65536 < n {
+    if MOST < n {
         return Verdict::Refused(Refusal(Rule::Large, 0));
     }
     if bloom % 8 != 0 {

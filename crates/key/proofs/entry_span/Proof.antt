@@ -1,6 +1,5 @@
--- `key::entry_span` meets its contract: the entry's second and third number.
+-- `key::entry_span` meets its contract: the entry's two numbers.
 use mathlib.Core.Path.{refl}
-use native.Mathlib.Omega.{arith}
 use Rattle.key.specs.Items.{entrySpan}
 use Rattle.key.proofs.entry_span.Statement.{statement}
 use Rattle.key.proofs.entry_span.Tie as tie
@@ -10,13 +9,4 @@ unfolding entrySpan
 returns c = refl
 
 pub entry-span-spec : {M : Type 1} → statement M
-entry-span-spec =
-    tie.close
-    (tie.spec
-    (λ c. omega arith)
-    (λ c. omega arith)
-    (λ c. omega arith)
-    (λ c. omega arith)
-    (λ c. omega arith)
-    (λ c. omega arith)
-    returns)
+entry-span-spec = tie.close (tie.spec returns)

@@ -21,7 +21,7 @@ join-spec =
     (λ c. search needs)
     (λ c. omega (arith, c .slice-known4 .given (c .before .before .before .before .before .before .before .args .m)))
     (λ c κs. let start = c .before .before .before .before .before .before .before in (each-at _ _ _ (start .pre .0) (omega arith), each-at _ _ _ (start .pre .0) (omega arith)))
-    (λ c. let start = c .before .before .before .before .before .before .before .before .before in stands-joined _ _ _ (start .pre .1 .0) (item-order _ _ _) (sym (c .before .comes-first .ensures) ∙ c .if1 .taken))
+    (λ c. let start = c .before .before .before .before .before .before .before .before .before in stands-joined _ _ _ (start .pre .1 .0) (item-order _ _ _) (sym (c .before .hinted-first .ensures) ∙ c .if1 .taken))
     (λ c. first-counted _ _ _ (c .before .before .before .before .before .before .before .before .before .before .before .pre .1 .0))
     (λ c. search needs)
     (λ c. search needs)

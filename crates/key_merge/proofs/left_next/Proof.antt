@@ -6,7 +6,7 @@ use Rattle.key_merge.proofs.Merging.{left-ended, right-ended, test-deci
 use Rattle.key_merge.proofs.left_next.Statement.{statement}
 use Rattle.key_merge.proofs.left_next.Tie as tie
 
-can-read : tie.Need-comes-first-requires
+can-read : tie.Need-hinted-first-requires
 can-read c κs =
     let start = c .before .before .before .before .before .before .before .before .before in
     (each-at _ _ _ (start .pre .0) (omega arith), each-at _ _ _ (start .pre .1) (omega arith))

@@ -1,11 +1,11 @@
--- `key_hint::comes_first` meets its contract: hints that differ decide, and where they do not, the keys do.
+-- `key_hint::hinted_first` meets its contract: hints that differ decide, and where they do not, the keys do.
 use borrow.Author.Needs.{needs}
 use Rattle.key_hint.proofs.Leads.{lower-hint, higher-hint}
-use Rattle.key_hint.proofs.comes_first.Statement.{statement}
-use Rattle.key_hint.proofs.comes_first.Tie as tie
+use Rattle.key_hint.proofs.hinted_first.Statement.{statement}
+use Rattle.key_hint.proofs.hinted_first.Tie as tie
 
-pub comes-first-spec : {M : Type 1} → statement M
-comes-first-spec =
+pub hinted-first-spec : {M : Type 1} → statement M
+hinted-first-spec =
     tie.close
     (tie.spec
     (λ c. search needs)
