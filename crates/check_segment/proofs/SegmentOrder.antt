@@ -29,10 +29,10 @@ use Rattle.check_segment.specs.SegmentParts.{contentsVerdict, bodyRules}
 -- ---- after the checksum
 
 -- the keys of the records, as items and as records
-same-keys : (pairs s : List ℕ) (h : Header) (n : ℕ)
-    → firstOver n (freshKey (itemKey (Records (recordsOffset h)) s pairs) (itemPlace (Records (recordsOffset h)))) ≡ firstOver n (freshKey (keyNo v3 s h) (recordPlace v3 h))
+same-keys : (s list : List ℕ) (h : Header) (n : ℕ)
+    → firstOver n (freshKey (itemKey (Records (recordsOffset h)) s list) (itemPlace (Records (recordsOffset h)))) ≡ firstOver n (freshKey (keyNo v3 s h) (recordPlace v3 h))
 unfolding itemKey itemPlace itemHash itemDigest itemSpan recordSpan keyNo digestIn recordNo
-same-keys pairs s h n = refl
+same-keys s list h n = refl
 
 by-verdict : (v : Verdict) (P : Type 0) → (v ≡ Accepted → P) → ((x : Refusal) → v ≡ Refused x → P) → P
 by-verdict Accepted P f g = f refl
@@ -67,10 +67,11 @@ module _ (pairs s : List ℕ) (h : Header) where
     unfolding contentsVerdict visibilityVerdict
     shown-wrong d = rw (all-passed, ← largest-is, ne-eqb (h .visibility) v (λ q. d (sym q)))
 
-    pub keys-told : {w : Verdict} → v ≡ h .visibility → w ≡ firstOver (recordCount h) (freshKey (itemKey (Records (recordsOffset h)) s pairs) (itemPlace (Records (recordsOffset h))))
+    pub keys-told : (list : List ℕ) {w : Verdict} → v ≡ h .visibility
+        → w ≡ firstOver (recordCount h) (freshKey (itemKey (Records (recordsOffset h)) s list) (itemPlace (Records (recordsOffset h))))
         → w ≡ contentsVerdict pairs s h
     unfolding contentsVerdict visibilityVerdict
-    keys-told d f = f ∙ same-keys pairs s h (recordCount h) ∙ rw (all-passed, ← largest-is, eq-eqb (h .visibility) v (sym d))
+    keys-told list d f = f ∙ same-keys s list h (recordCount h) ∙ rw (all-passed, ← largest-is, eq-eqb (h .visibility) v (sym d))
 
   pub contents-stop : (x : Refusal) → NotPassed x ≡ passed pairs s h (recordCount h) → Refused x ≡ contentsVerdict pairs s h
   unfolding contentsVerdict every

@@ -37,10 +37,10 @@ fn check_contents(pairs: &[u64], seg: &[u8], h: Header) -> Verdict
     }
     let at = h.records_offset.0 as usize;
     let n = h.record_count as usize;
-    if key_ascending::keys_climb(Kind::Records(at), seg, pairs, n) {
+    if key_ascending::keys_climb(Kind::Records(at), seg, &key::NO_LIST, n) {
         return Verdict::Accepted;
     }
-    key_duplicate::check_keys(Kind::Records(at), seg, pairs, n)
+    key_duplicate::check_keys(Kind::Records(at), seg, &key::NO_LIST, n)
 }
 
 // The checksum, and then the contents.

@@ -5,43 +5,43 @@ ghost use lib.ListN.{length};
 ghost use Rattle.numbers.specs.Numbers.{numAt};
 use field_record::FileOffset;
 
-const MAGIC: usize = 0;
+pub const MAGIC: usize = 0;
 
-const VERSION: usize = 8;
+pub const VERSION: usize = 8;
 
-const SHARD: usize = 10;
+pub const SHARD: usize = 10;
 
-const HEADER_SIZE: usize = 12;
+pub const HEADER_SIZE: usize = 12;
 
-const SNAPSHOT_MIN: usize = 16;
+pub const SNAPSHOT_MIN: usize = 16;
 
-const SNAPSHOT_MAX: usize = 24;
+pub const SNAPSHOT_MAX: usize = 24;
 
-const RECORD_COUNT: usize = 32;
+pub const RECORD_COUNT: usize = 32;
 
-const RECORDS_OFFSET: usize = 40;
+pub const RECORDS_OFFSET: usize = 40;
 
-const BLOOM_OFFSET: usize = 48;
+pub const BLOOM_OFFSET: usize = 48;
 
-const BLOOM_SIZE: usize = 56;
+pub const BLOOM_SIZE: usize = 56;
 
-const DIGESTS_OFFSET: usize = 64;
+pub const DIGESTS_OFFSET: usize = 64;
 
-const DIGESTS_SIZE: usize = 72;
+pub const DIGESTS_SIZE: usize = 72;
 
-const EXTENTS_OFFSET: usize = 80;
+pub const EXTENTS_OFFSET: usize = 80;
 
-const EXTENT_COUNT: usize = 88;
+pub const EXTENT_COUNT: usize = 88;
 
-const DOMAIN: usize = 96;
+pub const DOMAIN: usize = 96;
 
-const VISIBILITY: usize = 100;
+pub const VISIBILITY: usize = 100;
 
-const FEDERATION: usize = 101;
+pub const FEDERATION: usize = 101;
 
-const RESERVED: usize = 102;
+pub const RESERVED: usize = 102;
 
-const FLAGS: usize = 104;
+pub const FLAGS: usize = 104;
 
 pub fn magic(seg: &[u8]) -> u64
     requires { ⌜ 112 ≤ length (now seg) ⌝ }

@@ -17,6 +17,9 @@ pub enum Kind {
     Entries,
 }
 
+// What is lent as a list of entries, or of their extents, where the items are records: none.
+pub const NO_LIST: [u64; 0] = [];
+
 // A part of the bytes: where it starts, and how long it is.
 pub struct Span {
     pub start: usize,

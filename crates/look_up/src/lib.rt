@@ -51,7 +51,7 @@ fn found(r: Record) -> Found
 }
 
 // The record of an accepted segment that has the key, if there is one.
-fn find(pairs: &[u64], seg: &[u8], hash: u64, digest: &[u8]) -> Found
+fn find(seg: &[u8], hash: u64, digest: &[u8]) -> Found
     requires { ⌜ Readable v3 (now seg) (headerOf (now seg)) ⌝ }
     ensures { λ r. ⌜ r ≡ foundIn v3 (now (seg .entry)) (headerOf (now (seg .entry))) (keyFrom hash (now (digest .entry))) ⌝ }
 {
@@ -61,7 +61,7 @@ fn find(pairs: &[u64], seg: &[u8], hash: u64, digest: &[u8]) -> Found
     let head = Head { hash_id: hash };
     let mut k = 0;
     while k < count {
-        if key_equal::key_is(Kind::Records(first), seg, pairs, k, head, digest) {
+        if key_equal::key_is(Kind::Records(first), seg, &key::NO_LIST, k, head, digest) {
             return found(Record::at(seg, first + Record::SIZE * k));
         }
         k += 1;
@@ -83,7 +83,7 @@ fn look_up_under(pairs: &[u64], seg: &[u8], hash: u64, digest: &[u8]) -> Found
         }
         Verdict::Accepted => {}
     }
-    find(pairs, seg, hash, digest)
+    find(seg, hash, digest)
 }
 
 pub fn look_up(pairs: &[u64], seg: &[u8], hash: u64, digest: &[u8]) -> Found

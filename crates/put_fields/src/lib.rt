@@ -18,6 +18,7 @@ ghost use Rattle.put_fields.specs.Groups.{
   ownerFields,
   markFields,
 };
+use field_frame::header;
 use segment::extent::Extent;
 use segment::footer::Footer;
 use segment::header::Header;
@@ -27,20 +28,20 @@ fn put_kind(h: Header, out: &mut [u8])
     requires { ⌜ 112 ≤ length (now out) ⌝ }
     ensures { λ _. ⌜ now (out .exit) ≡ put (now (out .entry)) 0 (packed (kindFields h)) ⌝ }
 {
-    numbers::put_u64(out, 0, h.magic);
-    numbers::put_u16(out, 8, h.version);
-    numbers::put_u16(out, 10, h.shard);
-    numbers::put_u32(out, 12, h.header_size);
+    numbers::put_u64(out, header::MAGIC, h.magic);
+    numbers::put_u16(out, header::VERSION, h.version);
+    numbers::put_u16(out, header::SHARD, h.shard);
+    numbers::put_u32(out, header::HEADER_SIZE, h.header_size);
 }
 
 fn put_counts(h: Header, out: &mut [u8])
     requires { ⌜ 112 ≤ length (now out) ⌝ }
     ensures { λ _. ⌜ now (out .exit) ≡ put (now (out .entry)) 16 (packed (countFields h)) ⌝ }
 {
-    numbers::put_u64(out, 16, h.snapshot_min);
-    numbers::put_u64(out, 24, h.snapshot_max);
-    numbers::put_u64(out, 32, h.record_count);
-    numbers::put_u64(out, 40, h.records_offset.0);
+    numbers::put_u64(out, header::SNAPSHOT_MIN, h.snapshot_min);
+    numbers::put_u64(out, header::SNAPSHOT_MAX, h.snapshot_max);
+    numbers::put_u64(out, header::RECORD_COUNT, h.record_count);
+    numbers::put_u64(out, header::RECORDS_OFFSET, h.records_offset.0);
 }
 
 fn put_front(h: Header, out: &mut [u8])
@@ -55,10 +56,10 @@ fn put_sections(h: Header, out: &mut [u8])
     requires { ⌜ 112 ≤ length (now out) ⌝ }
     ensures { λ _. ⌜ now (out .exit) ≡ put (now (out .entry)) 48 (packed (sectionFields h)) ⌝ }
 {
-    numbers::put_u64(out, 48, h.bloom_offset.0);
-    numbers::put_u64(out, 56, h.bloom_size);
-    numbers::put_u64(out, 64, h.digests_offset.0);
-    numbers::put_u64(out, 72, h.digests_size);
+    numbers::put_u64(out, header::BLOOM_OFFSET, h.bloom_offset.0);
+    numbers::put_u64(out, header::BLOOM_SIZE, h.bloom_size);
+    numbers::put_u64(out, header::DIGESTS_OFFSET, h.digests_offset.0);
+    numbers::put_u64(out, header::DIGESTS_SIZE, h.digests_size);
 }
 
 // Where the extents stand and how many they are; then whose the segment is: domain and visibility.
@@ -66,19 +67,19 @@ fn put_extents_and_owner(h: Header, out: &mut [u8])
     requires { ⌜ 112 ≤ length (now out) ⌝ }
     ensures { λ _. ⌜ now (out .exit) ≡ put (now (out .entry)) 80 (packed (extentsOwnerFields h)) ⌝ }
 {
-    numbers::put_u64(out, 80, h.extents_offset.0);
-    numbers::put_u64(out, 88, h.extent_count);
-    numbers::put_u32(out, 96, h.domain);
-    numbers::put_u8(out, 100, h.visibility);
+    numbers::put_u64(out, header::EXTENTS_OFFSET, h.extents_offset.0);
+    numbers::put_u64(out, header::EXTENT_COUNT, h.extent_count);
+    numbers::put_u32(out, header::DOMAIN, h.domain);
+    numbers::put_u8(out, header::VISIBILITY, h.visibility);
 }
 
 fn put_last(h: Header, out: &mut [u8])
     requires { ⌜ 112 ≤ length (now out) ⌝ }
     ensures { λ _. ⌜ now (out .exit) ≡ put (now (out .entry)) 101 (packed (lastFields h)) ⌝ }
 {
-    numbers::put_u8(out, 101, h.federation);
-    numbers::put_u16(out, 102, h.reserved);
-    numbers::put_u64(out, 104, h.flags);
+    numbers::put_u8(out, header::FEDERATION, h.federation);
+    numbers::put_u16(out, header::RESERVED, h.reserved);
+    numbers::put_u64(out, header::FLAGS, h.flags);
 }
 
 // The header, at the front.

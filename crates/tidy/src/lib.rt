@@ -34,7 +34,7 @@ fn heading_of(seg: &[u8], h: Header) -> Heading
     }
 }
 
-// Everything but the table. Records are read from the segment alone, so that the two lists of entries and extents are not read.
+// Everything but the table. Records are read from the segment alone.
 fn tidy_under(pairs: &[u64], seg: &[u8], out: &mut [u8]) -> Written
     requires { ⌜ goodTable (now pairs) ≡ true ⌝ }
     ensures { λ r. ⌜ Left (segmentVerdict v3 (now (pairs .entry)) (now (seg .entry))) (tidyForm v3 (meaningOf v3 (now (seg .entry))))
@@ -56,8 +56,8 @@ fn tidy_under(pairs: &[u64], seg: &[u8], out: &mut [u8]) -> Written
         &seg[Header::SIZE..end],
         records,
         seg,
-        pairs,
-        pairs,
+        &key::NO_LIST,
+        &key::NO_LIST,
         n,
         out,
     )

@@ -11,23 +11,23 @@ use Rattle.look_up.proofs.find.Statement.{statement}
 use Rattle.look_up.proofs.find.Tie as tie
 
 abbrev Inv-loop : tie.InvT-loop
-Inv-loop pairs seg hash digest first count head k₀ k = (k ≤ count) × Searching seg (keyFrom hash digest) k
+Inv-loop seg hash digest first count head k₀ none k = (k ≤ count) × Searching seg (keyFrom hash digest) k
 
 abbrev μ-loop : tie.MeasureT-loop
-μ-loop pairs seg hash digest first count head k₀ k = count - k
+μ-loop seg hash digest first count head k₀ none k = count - k
 
-known : (c : tie.After-of Inv-loop μ-loop) → Readable v3 (c .before .before .before .before .args .seg .now) (c .of .result)
-known c = read _ _ _ (c .of .ensures) (c .before .before .before .before .pre)
+known : (c : tie.After-of Inv-loop μ-loop) → Readable v3 (c .before .before .before .args .seg .now) (c .of .result)
+known c = read _ _ _ (c .of .ensures) (c .before .before .before .pre)
 
 hit : tie.Need-returns Inv-loop μ-loop
 hit c =
     let at = c .before .before .before in
-    let loop = at .before .before in
+    let loop = at .before .before .before in
     search-hit _ _ _ _ _ (loop .before .of .ensures) _ (at .key-is .ensures) _ _ (loop .loop .inv .1) (c .before .before .if1 .taken) (omega arith) (c .before .at .ensures) (c .found .ensures)
 
 more : tie.Need-loop-again Inv-loop μ-loop
 more c =
-    let loop = c .before .before .before in
+    let loop = c .before .before .before .before in
     (omega arith, search-more _ _ _ _ _ (loop .before .of .ensures) _ (c .before .key-is .ensures) (loop .loop .inv .1) (c .if1 .left))
 
 ends : tie.Need-returns-2 Inv-loop μ-loop
@@ -39,12 +39,13 @@ find-spec =
     (tie.spec
     Inv-loop
     μ-loop
-    (λ c κs. omega (arith, c .before .before .before .pre .long))
+    (λ c κs. omega (arith, c .before .before .pre .long))
     (λ c. (omega arith, search-start _ _))
-    (λ c κs. items _ _ _ (known (c .before .before)) .each _ (omega arith))
-    (λ c. let l = known (c .before .before .before .before) .laid in omega arith)
-    (λ c. let l = known (c .before .before .before .before) .laid in omega arith)
-    (λ c κs. let l = known (c .before .before .before .before) .laid in omega arith)
+    (λ c. search needs)
+    (λ c κs. items _ _ _ (known (c .before .before .before)) .each _ (omega arith))
+    (λ c. let l = known (c .before .before .before .before .before) .laid in omega arith)
+    (λ c. let l = known (c .before .before .before .before .before) .laid in omega arith)
+    (λ c κs. let l = known (c .before .before .before .before .before) .laid in omega arith)
     (λ c κs. search needs)
     hit
     (λ c. search needs)

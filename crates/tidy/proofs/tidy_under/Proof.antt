@@ -40,8 +40,10 @@ tidy-under-spec =
     (λ c. omega arith)
     (λ c. omega (arith, bloom-within _ _ (known (c .before))))
     (λ c. omega (arith, bloom-within _ _ (known (c .before))))
-    (λ c κs. let of = c .before .before .before in
+    (λ c. search needs)
+    (λ c. search needs)
+    (λ c κs. let of = c .before .before .before .before .before in
     (read-lines _ _ (known of) (bytes (of .before)) _ _, known of .laid .layout .few))
     (λ c. search needs)
-    (λ c. let made = c .before .before .before .before .before in let read = made .before in
+    (λ c. let made = c .before .before .before .before .before .before .before in let read = made .before in
     left-written _ _ _ _ _ _ (accepted (read .before)) (read-form _ _ _ _ _ (read .of .ensures) (made .heading-of .ensures)) (c .before .before .put-tidy .ensures)))
