@@ -54,7 +54,7 @@ module _ (P : ℕ → Type 0) where
       (λ (q : i ≡ k). rw q (e .0))
       (λ (q : ¬ (i ≡ k)). each-counted (suc k) n (e .1) i (omega arith) (omega arith))
 
-  -- so the numbers of n items that can be read are numbers to sort
+  -- of the first n numbers
   pub counted-iff : (n : ℕ) → Each P (countFrom 0 n) ↔ ((i : ℕ) → i < n → P i)
   counted-iff n = (λ e i l. each-counted 0 n e i (omega arith) (omega arith), λ h. counted-each 0 n (λ i l u. h i (omega arith)))
 

@@ -1,4 +1,4 @@
--- Two lists that are equal, how that is told, and what it says of a key among others.
+-- Two lists that are equal, and how that is told.
 -- Assumes nothing.
 use Prim.Native.Nat.{ℕ}
 use mathlib.Core.Path.{_≡_, refl, sym}

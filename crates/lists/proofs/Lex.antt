@@ -1,5 +1,5 @@
--- The order of keys is a total order: total, transitive, antisymmetric and reflexive. So is any order by a key, save that two
--- things with one key come in either order.
+-- The order of lists of numbers is total, transitive, antisymmetric and reflexive. So is any order by such a list, save that two
+-- things with one list come in either order.
 -- Assumes nothing.
 use Prim.Native.Nat.{ℕ, _<_}
 use mathlib.Core.Path.{_≡_, refl, sym}
