@@ -9,8 +9,11 @@ use Rattle.answer.specs.declared.Verdict.the-variants.{Accepted}
 use Rattle.answer.specs.Rules.{firstOver}
 use Rattle.answer.proofs.Order.{then-accepted, first-accepted}
 use Rattle.segment.specs.declared.header.Header.{Header}
-use Rattle.segment.specs.Format.{Shape, v3, recordNo}
+use Rattle.segment.specs.declared.shape.Shape.{Shape}
+use Rattle.segment.specs.Format.{v3, recordNo}
 use Rattle.table.specs.Table.{goodTable}
+use Rattle.segment.specs.Shapes.{Shaped}
+use Rattle.segment.proofs.Shapes.{v3-shaped}
 use Rattle.segment.specs.Check.{recordVerdict, segmentRules, segmentVerdict, checked}
 use Rattle.segment.specs.Meets.{RecordMeets, Meets}
 use Rattle.key.proofs.Duplicates.{keys-book}
@@ -23,10 +26,10 @@ pub records-book : (sh : Shape) (pairs s : List ℕ) (h : Header) (n : ℕ)
     → firstOver n (recordVerdict sh pairs s h) ≡ Accepted ↔ ((k : ℕ) → k < n → RecordMeets sh pairs s h (recordNo sh s h k))
 records-book sh pairs s h n = simp (first-accepted, record-book) Iff·rfl
 
-pub segment-book : (pairs s : List ℕ) → segmentVerdict v3 pairs s ≡ Accepted ↔ Meets v3 pairs s
+pub segment-book : (sh : Shape) → Shaped sh → (pairs s : List ℕ) → segmentVerdict sh pairs s ≡ Accepted ↔ Meets sh pairs s
 unfolding segmentVerdict segmentRules
-segment-book pairs s =
-    simp (then-accepted, size-book, head-book, layout-book, checksum-book, records-book, visibility-book, keys-book) (
+segment-book sh w pairs s =
+    simp (then-accepted, size-book, head-book, layout-book sh w, checksum-book, records-book, visibility-book, keys-book) (
       λ a. record {
         size = a .0;
         magic = a .1 .0 .0;
@@ -47,4 +50,4 @@ unfolding checked
 under-table pairs s g = rw (table-book pairs .1 g)
 
 pub checked-iff : (pairs s : List ℕ) → goodTable pairs ≡ true → checked pairs s ≡ Accepted ↔ Meets v3 pairs s
-checked-iff pairs s g = rw (under-table pairs s g) (segment-book pairs s)
+checked-iff pairs s g = rw (under-table pairs s g) (segment-book v3 v3-shaped pairs s)

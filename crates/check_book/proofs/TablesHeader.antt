@@ -15,9 +15,12 @@ use Rattle.answer.specs.declared.Verdict.the-variants.{Accepted, Refused}
 use Rattle.lists.proofs.Tests.{tests}
 use Rattle.answer.proofs.Order.{rows}
 use Rattle.segment.specs.declared.header.Header.{Header}
-use Rattle.segment.specs.Format.{Shape, v3, bloomSize}
+use Rattle.segment.specs.declared.shape.Shape.{Shape}
+use Rattle.segment.specs.Format.{recordCount, bloomSize}
+use Rattle.segment.specs.Shapes.{Shaped}
 use Rattle.table.specs.Table.{goodTable, tableVerdict}
 use Rattle.segment.specs.Check.{sizeVerdict, headVerdict, layoutVerdict, checksumVerdict}
+use Rattle.segment.proofs.Shapes.{shaped-divides}
 use Rattle.segment.specs.Meets.{SizeMeets, HeaderMeets, LayoutMeets, ChecksumMeets}
 use Rattle.check_book.proofs.OneRefusal.{only-rows, broken}
 
@@ -67,15 +70,16 @@ module _ (sh : Shape) (h : Header) where
 
 -- ---- 5. That 8 divides them the table asks of the two sizes, and the rule of every section's offset
 
-module _ (s : List ℕ) (h : Header) where
-  pub layout-book : layoutVerdict v3 h (length s) ≡ Accepted ↔ LayoutMeets v3 s h
+module _ (sh : Shape) (w : Shaped sh) (s : List ℕ) (h : Header) where
+  pub layout-book : layoutVerdict sh h (length s) ≡ Accepted ↔ LayoutMeets sh s h
   unfolding layoutVerdict
   layout-book =
+      let d = shaped-divides sh w (recordCount h) in
       by-cases (ℕ-discrete (bloomSize h) 0)
-      (λ (z : bloomSize h ≡ 0). rw (eq-eqb (bloomSize h) 0 z) (simp rows (λ a. omega arith, λ (m : LayoutMeets v3 s h). omega (arith, m .noBloom z))))
-      (λ (z : ¬ (bloomSize h ≡ 0)). rw (ne-eqb (bloomSize h) 0 z) (simp rows (λ a. omega arith, λ (m : LayoutMeets v3 s h). omega (arith, m .bloom z))))
+      (λ (z : bloomSize h ≡ 0). rw (eq-eqb (bloomSize h) 0 z) (simp rows (λ a. omega arith, λ (m : LayoutMeets sh s h). omega (arith, m .noBloom z))))
+      (λ (z : ¬ (bloomSize h ≡ 0)). rw (ne-eqb (bloomSize h) 0 z) (simp rows (λ a. omega arith, λ (m : LayoutMeets sh s h). omega (arith, m .bloom z))))
 
-  pub layout-broken : ¬ LayoutMeets v3 s h → layoutVerdict v3 h (length s) ≡ Refused (refusal Layout 0)
+  pub layout-broken : ¬ LayoutMeets sh s h → layoutVerdict sh h (length s) ≡ Refused (refusal Layout 0)
   unfolding layoutVerdict
   layout-broken = broken (search only-rows depth 9) layout-book
 

@@ -18,7 +18,8 @@ use Rattle.lists.proofs.Tests.{and-iff, or-iff, leb-iff}
 use Rattle.answer.proofs.Order.{then-accepted, rows}
 use Rattle.segment.specs.declared.header.Header.{Header}
 use Rattle.segment.specs.declared.record.Record.{Record}
-use Rattle.segment.specs.Format.{Shape, blockEnd, extentOf, extentsAt, extentsIn, recordNo}
+use Rattle.segment.specs.declared.shape.Shape.{Shape}
+use Rattle.segment.specs.Format.{blockEnd, extentOf, extentsAt, extentsIn, recordNo}
 use Rattle.segment.specs.Check.{
   marksVerdict,
   digestVerdict,

@@ -12,7 +12,8 @@ use Rattle.answer.specs.Answers.{refusal}
 use Rattle.answer.specs.declared.Verdict.the-variants.{Accepted, Refused}
 use Rattle.answer.proofs.Order.{rows}
 use Rattle.segment.specs.declared.header.Header.{Header}
-use Rattle.segment.specs.Format.{Shape, recordCount}
+use Rattle.segment.specs.declared.shape.Shape.{Shape}
+use Rattle.segment.specs.Format.{recordCount}
 use Rattle.segment.specs.Check.{visibilityNo, largestBelow, visibilityVerdict}
 use Rattle.segment.specs.Meets.{VisibilityMeets}
 use Rattle.check_book.proofs.OneRefusal.{only-rows, broken}

@@ -15,7 +15,8 @@ use Rattle.lists.proofs.Tests.{tests, by-test}
 use Rattle.segment.specs.declared.header.Header.{Header}
 use Rattle.segment.specs.declared.record.Record.{Record}
 use Rattle.segment.specs.declared.extent.Extent.{Extent}
-use Rattle.segment.specs.Format.{v3, extentsOffset, extentCount, extentOf, extentsAt, extentsIn}
+use Rattle.segment.specs.declared.shape.Shape.{Shape}
+use Rattle.segment.specs.Format.{extentsOffset, extentCount, extentOf, extentsAt, extentsIn}
 use Rattle.segment.specs.Check.{allFit, sumLengths, extentsVerdict, liveTotal, totalVerdict}
 use Rattle.segment.specs.Meets.{ExtentsMeet}
 use Rattle.check_book.proofs.TablesRecord.{extents-book, extents-refuses}
@@ -140,41 +141,41 @@ sum-is es sum e =
     let q : Of sum ≡ Of (sumLengths es) = e ∙ rw (all-fit es sum e) in
     cc
 
-module _ (s : List ℕ) (r : Record) (k : ℕ) where
+module _ (sh : Shape) (s : List ℕ) (r : Record) (k : ℕ) where
   module _ (g : r .flags ≡ 1) where
-    pub gone-total : (r .«total_length» ≡ 0 → ⊥) → Refused (refusal Total k) ≡ totalVerdict v3 s r k
+    pub gone-total : (r .«total_length» ≡ 0 → ⊥) → Refused (refusal Total k) ≡ totalVerdict sh s r k
     unfolding totalVerdict
     gone-total a = simp tests
 
-    pub gone-none : r .«total_length» ≡ 0 → Accepted ≡ totalVerdict v3 s r k
+    pub gone-none : r .«total_length» ≡ 0 → Accepted ≡ totalVerdict sh s r k
     unfolding totalVerdict
     gone-none a = simp tests
 
   module _ (g : r .flags ≡ 1 → ⊥) where
-    pub total-past : Past ≡ summed (extentsIn s r) → Refused (refusal Total k) ≡ totalVerdict v3 s r k
+    pub total-past : Past ≡ summed (extentsIn s r) → Refused (refusal Total k) ≡ totalVerdict sh s r k
     unfolding totalVerdict liveTotal
     total-past e = rw (not-fit (extentsIn s r) e) (simp tests)
 
     module _ (sum : ℕ) (e : Of sum ≡ summed (extentsIn s r)) where
-      pub total-great : 4294967295 < sum → Refused (refusal Total k) ≡ totalVerdict v3 s r k
+      pub total-great : sh .«total_limit» < sum → Refused (refusal Total k) ≡ totalVerdict sh s r k
       unfolding totalVerdict liveTotal
       total-great a = rw (all-fit (extentsIn s r) sum e, sum-is (extentsIn s r) sum e) (simp tests)
 
-      pub total-differs : sum ≤ 4294967295 → (sum ≡ r .«total_length» → ⊥) → Refused (refusal Total k) ≡ totalVerdict v3 s r k
+      pub total-differs : sum ≤ sh .«total_limit» → (sum ≡ r .«total_length» → ⊥) → Refused (refusal Total k) ≡ totalVerdict sh s r k
       unfolding totalVerdict liveTotal
       total-differs a b = rw (all-fit (extentsIn s r) sum e, sum-is (extentsIn s r) sum e) (simp tests)
 
-      pub total-accepted : sum ≤ 4294967295 → sum ≡ r .«total_length» → Accepted ≡ totalVerdict v3 s r k
+      pub total-accepted : sum ≤ sh .«total_limit» → sum ≡ r .«total_length» → Accepted ≡ totalVerdict sh s r k
       unfolding totalVerdict liveTotal
       total-accepted a b = rw (all-fit (extentsIn s r) sum e, sum-is (extentsIn s r) sum e) (simp tests)
 
 -- ---- 9, and then 10
 
-module _ (s : List ℕ) (h : Header) (r : Record) (k : ℕ) where
-  pub extents-stop : (x : Refusal) → extentsVerdict h r k ≡ Refused x → Refused x ≡ slicesRules s h r k
+module _ (sh : Shape) (s : List ℕ) (h : Header) (r : Record) (k : ℕ) where
+  pub extents-stop : (x : Refusal) → extentsVerdict h r k ≡ Refused x → Refused x ≡ slicesRules sh s h r k
   unfolding slicesRules
   extents-stop x e = rw e
 
-  pub extents-pass : {v : Verdict} → extentsVerdict h r k ≡ Accepted → v ≡ totalVerdict v3 s r k → v ≡ slicesRules s h r k
+  pub extents-pass : {v : Verdict} → extentsVerdict h r k ≡ Accepted → v ≡ totalVerdict sh s r k → v ≡ slicesRules sh s h r k
   unfolding slicesRules
   extents-pass e f = rw e f

@@ -10,7 +10,7 @@ use Rattle.answer.specs.Rules.{_then_}
 use Rattle.segment.specs.declared.header.Header.{Header}
 use Rattle.segment.specs.declared.record.Record.{Record}
 use Rattle.segment.specs.declared.extent.Extent.{Extent}
-use Rattle.segment.specs.Format.{v3}
+use Rattle.segment.specs.declared.shape.Shape.{Shape}
 use Rattle.segment.specs.Check.{extentsVerdict, allFit, sumLengths, totalVerdict}
 use Rattle.check_extents.specs.declared.Sum.{Sum}
 use Rattle.check_extents.specs.declared.Sum.the-variants.{Of, Past}
@@ -18,5 +18,5 @@ use Rattle.check_extents.specs.declared.Sum.the-variants.{Of, Past}
 unfoldable pub summed : List Extent → Sum
 summed es = cond (allFit es) (Of (sumLengths es)) Past
 
-unfoldable pub slicesRules : List ℕ → Header → Record → ℕ → Verdict
-slicesRules s h r k = extentsVerdict h r k then totalVerdict v3 s r k
+unfoldable pub slicesRules : Shape → List ℕ → Header → Record → ℕ → Verdict
+slicesRules sh s h r k = extentsVerdict h r k then totalVerdict sh s r k

@@ -3,9 +3,9 @@ ghost use mathlib.Core.Path.{_≡_};
 ghost use Prim.Native.Nat.{_+_, _*_, _<_, _≤_};
 ghost use lib.ListN.{length};
 ghost use Rattle.answer.specs.declared.Verdict.the-variants.{Accepted};
-ghost use Rattle.segment.specs.Format.{v3, extentsAt};
+ghost use Rattle.segment.specs.Format.{extentSize, extentsAt};
 ghost use Rattle.segment.specs.Check.{extentsVerdict, totalVerdict};
-ghost use Rattle.check_book.specs.Readable.{Laid};
+ghost use Rattle.check_book.specs.Readable.{Inside};
 ghost use Rattle.check_extents.specs.ExtentRules.{summed, slicesRules};
 use answer::Refusal;
 use answer::Rule;
@@ -14,6 +14,7 @@ use field_record::extent;
 use segment::extent::Extent;
 use segment::header::Header;
 use segment::record::Record;
+use segment::shape::Shape;
 
 // The lengths of some extents added up, or that one of them passes the end of its block.
 pub enum Sum {
@@ -22,7 +23,7 @@ pub enum Sum {
 }
 
 fn sum_extents(seg: &[u8], at: usize, count: usize) -> Sum
-    requires { ⌜ (at + 16 * count ≤ length (now seg)) × (count < 4294967296) ⌝ }
+    requires { ⌜ (at + extentSize * count ≤ length (now seg)) × (count < 4294967296) ⌝ }
     ensures { λ r. ⌜ r ≡ summed (extentsAt (now (seg .entry)) at count) ⌝ }
 {
     let mut sum: u64 = 0;
@@ -41,7 +42,7 @@ fn sum_extents(seg: &[u8], at: usize, count: usize) -> Sum
 }
 
 fn check_extents(seg: &[u8], h: Header, r: Record, place: u64) -> Verdict
-    requires { ⌜ Laid v3 (now seg) h ⌝ }
+    requires { ⌜ Inside (now seg) h ⌝ }
     ensures { λ v. ⌜ v ≡ extentsVerdict h r place ⌝ }
 {
     let at = r.extents_offset.0;
@@ -75,10 +76,10 @@ fn check_extents(seg: &[u8], h: Header, r: Record, place: u64) -> Verdict
     Verdict::Accepted
 }
 
-fn check_total(seg: &[u8], h: Header, r: Record, place: u64) -> Verdict
-    requires { ⌜ Laid v3 (now seg) h ⌝ }
+fn check_total(sh: Shape, seg: &[u8], h: Header, r: Record, place: u64) -> Verdict
+    requires { ⌜ Inside (now seg) h ⌝ }
     requires { ⌜ extentsVerdict h r place ≡ Accepted ⌝ }
-    ensures { λ v. ⌜ v ≡ totalVerdict v3 (now (seg .entry)) r place ⌝ }
+    ensures { λ v. ⌜ v ≡ totalVerdict sh (now (seg .entry)) r place ⌝ }
 {
     if r.flags == 1 {
         if r.total_length != 0 {
@@ -91,7 +92,7 @@ fn check_total(seg: &[u8], h: Header, r: Record, place: u64) -> Verdict
             return Verdict::Refused(Refusal(Rule::Total, place));
         }
         Sum::Of(sum) => {
-            if 4294967295 < sum {
+            if sh.total_limit < sum {
                 return Verdict::Refused(Refusal(Rule::Total, place));
             }
             if sum != r.total_length {
@@ -103,9 +104,9 @@ fn check_total(seg: &[u8], h: Header, r: Record, place: u64) -> Verdict
 }
 
 // 9 and 10.
-pub fn check_slices(seg: &[u8], h: Header, r: Record, place: u64) -> Verdict
-    requires { ⌜ Laid v3 (now seg) h ⌝ }
-    ensures { λ v. ⌜ v ≡ slicesRules (now (seg .entry)) h r place ⌝ }
+pub fn check_slices(sh: Shape, seg: &[u8], h: Header, r: Record, place: u64) -> Verdict
+    requires { ⌜ Inside (now seg) h ⌝ }
+    ensures { λ v. ⌜ v ≡ slicesRules sh (now (seg .entry)) h r place ⌝ }
 {
     match check_extents(seg, h, r, place) {
         Verdict::Refused(x) => {
@@ -113,5 +114,5 @@ pub fn check_slices(seg: &[u8], h: Header, r: Record, place: u64) -> Verdict
         }
         Verdict::Accepted => {}
     }
-    check_total(seg, h, r, place)
+    check_total(sh, seg, h, r, place)
 }

@@ -9,21 +9,22 @@ use Rattle.answer.specs.declared.Verdict.{Verdict}
 use Rattle.answer.specs.declared.Verdict.the-variants.{Accepted, Refused}
 use Rattle.answer.proofs.Order.{then-accepted}
 use Rattle.segment.specs.declared.header.Header.{Header}
-use Rattle.segment.specs.Format.{v3}
+use Rattle.segment.specs.declared.shape.Shape.{Shape}
+use Rattle.segment.specs.Shapes.{Shaped}
 use Rattle.segment.specs.Check.{headVerdict, layoutVerdict}
 use Rattle.check_book.specs.Readable.{Laid}
 use Rattle.check_book.proofs.TablesHeader.{layout-book}
 use Rattle.check_header.specs.HeaderRules.{headerRules}
 
-module _ (h : Header) (n : ℕ) where
-  pub head-stop : (x : Refusal) → headVerdict v3 h ≡ Refused x → Refused x ≡ headerRules h n
+module _ (sh : Shape) (h : Header) (n : ℕ) where
+  pub head-stop : (x : Refusal) → headVerdict sh h ≡ Refused x → Refused x ≡ headerRules sh h n
   unfolding headerRules
   head-stop x e = rw e
 
-  pub head-pass : {v : Verdict} → headVerdict v3 h ≡ Accepted → v ≡ layoutVerdict v3 h n → v ≡ headerRules h n
+  pub head-pass : {v : Verdict} → headVerdict sh h ≡ Accepted → v ≡ layoutVerdict sh h n → v ≡ headerRules sh h n
   unfolding headerRules
   head-pass e f = rw e f
 
-pub laid-of : (s : List ℕ) (h : Header) → headerRules h (length s) ≡ Accepted → length s ≤ 1073741824 → Laid v3 s h
+pub laid-of : (sh : Shape) → Shaped sh → (s : List ℕ) (h : Header) → headerRules sh h (length s) ≡ Accepted → length s ≤ 1073741824 → Laid sh s h
 unfolding headerRules
-laid-of s h e most = record { layout = layout-book s h .0 (then-accepted (headVerdict v3 h) (layoutVerdict v3 h (length s)) .0 e .1); most = most }
+laid-of sh w s h e most = record { shaped = w; layout = layout-book sh w s h .0 (then-accepted (headVerdict sh h) (layoutVerdict sh h (length s)) .0 e .1); most = most }

@@ -5,6 +5,7 @@ use Prim.Native.Nat.{ℕ, _+_, _-_, _*_, _/_, _%_, _≤_, _<_}
 use mathlib.Core.Path.{_≡_, sym, _∙_}
 use mathlib.Core.Bool.{Bool, true, false, not}
 use mathlib.Core.List.{List}
+use native.Mathlib.Nat.{mul-le-mul}
 use native.Mathlib.Omega.{arith}
 use borrow.Author.Tests.{eq-eqb, ne-eqb, eqb-true, eqb-false}
 use lib.Dec.{eqb}
@@ -16,43 +17,46 @@ use Rattle.answer.specs.Answers.{refusal}
 use Rattle.answer.specs.declared.Verdict.the-variants.{Accepted, Refused}
 use Rattle.lists.proofs.Tests.{tests, by-test, was-true, was-false}
 use Rattle.segment.specs.declared.header.Header.{Header}
-use Rattle.segment.specs.Format.{v3, recordCount, recordsOffset, bloomOffset, bloomSize, digestsOffset, digestsSize, extentsOffset, extentCount, footerOf}
+use Rattle.segment.specs.declared.shape.Shape.{Shape}
+use Rattle.segment.specs.Format.{recordCount, recordsOffset, bloomOffset, bloomSize, digestsOffset, digestsSize, extentsOffset, extentCount, footerOf}
 use Rattle.segment.specs.Check.{headVerdict, bloomPlace, layoutVerdict, checksumVerdict}
+use Rattle.segment.specs.Shapes.{Shaped}
+use Rattle.segment.proofs.Shapes.{shaped-most}
 use Rattle.segment.specs.Meets.{HeaderMeets}
 use Rattle.check_book.proofs.TablesHeader.{magic-broken, version-broken, header-book, header-broken}
 
 -- ---- 2, 3 and 4
 
-module _ (h : Header) where
-  pub head-magic : (h .magic ≡ 0x3330_5844_494C_5341 → ⊥) → Refused (refusal Magic 0) ≡ headVerdict v3 h
-  head-magic n = sym (magic-broken v3 h n)
+module _ (sh : Shape) (h : Header) where
+  pub head-magic : (h .magic ≡ sh .magic → ⊥) → Refused (refusal Magic 0) ≡ headVerdict sh h
+  head-magic n = sym (magic-broken sh h n)
 
-  module _ (m : h .magic ≡ 0x3330_5844_494C_5341) where
-    pub head-version : (h .version ≡ 3 → ⊥) → Refused (refusal Version 0) ≡ headVerdict v3 h
-    head-version n = sym (version-broken v3 h m n)
+  module _ (m : h .magic ≡ sh .magic) where
+    pub head-version : (h .version ≡ sh .version → ⊥) → Refused (refusal Version 0) ≡ headVerdict sh h
+    head-version n = sym (version-broken sh h m n)
 
-    module _ (v : h .version ≡ 3) where
-      header-wrong : ¬ HeaderMeets h → Refused (refusal HeaderWrong 0) ≡ headVerdict v3 h
-      header-wrong n = sym (header-broken v3 h m v n)
+    module _ (v : h .version ≡ sh .version) where
+      header-wrong : ¬ HeaderMeets h → Refused (refusal HeaderWrong 0) ≡ headVerdict sh h
+      header-wrong n = sym (header-broken sh h m v n)
 
-      pub head-size : (h .«header_size» ≡ 112 → ⊥) → Refused (refusal HeaderWrong 0) ≡ headVerdict v3 h
+      pub head-size : (h .«header_size» ≡ 112 → ⊥) → Refused (refusal HeaderWrong 0) ≡ headVerdict sh h
       head-size n = header-wrong (λ k. n (k .size))
 
-      pub head-federation : (h .federation ≡ 0 → ⊥) → Refused (refusal HeaderWrong 0) ≡ headVerdict v3 h
+      pub head-federation : (h .federation ≡ 0 → ⊥) → Refused (refusal HeaderWrong 0) ≡ headVerdict sh h
       head-federation n = header-wrong (λ k. n (k .federation))
 
-      pub head-reserved : (h .reserved ≡ 0 → ⊥) → Refused (refusal HeaderWrong 0) ≡ headVerdict v3 h
+      pub head-reserved : (h .reserved ≡ 0 → ⊥) → Refused (refusal HeaderWrong 0) ≡ headVerdict sh h
       head-reserved n = header-wrong (λ k. n (k .reserved))
 
-      pub head-flags : (h .flags ≡ 0 → ⊥) → Refused (refusal HeaderWrong 0) ≡ headVerdict v3 h
+      pub head-flags : (h .flags ≡ 0 → ⊥) → Refused (refusal HeaderWrong 0) ≡ headVerdict sh h
       head-flags n = header-wrong (λ k. n (k .flags))
 
-      pub head-visibility : 1 < h .visibility → Refused (refusal HeaderWrong 0) ≡ headVerdict v3 h
+      pub head-visibility : 1 < h .visibility → Refused (refusal HeaderWrong 0) ≡ headVerdict sh h
       head-visibility l = header-wrong (λ k. omega (arith, k .visibility))
 
-      pub head-accepted : h .«header_size» ≡ 112 → h .federation ≡ 0 → h .reserved ≡ 0 → h .flags ≡ 0 → h .visibility ≤ 1 → Accepted ≡ headVerdict v3 h
+      pub head-accepted : h .«header_size» ≡ 112 → h .federation ≡ 0 → h .reserved ≡ 0 → h .flags ≡ 0 → h .visibility ≤ 1 → Accepted ≡ headVerdict sh h
       head-accepted z f r g l =
-          sym (header-book v3 h m v .1 (record { size = z; federation = f; reserved = r; flags = g; visibility = l }))
+          sym (header-book sh h m v .1 (record { size = z; federation = f; reserved = r; flags = g; visibility = l }))
 
 pub ruleset head-rows = (head-magic, head-version, head-size, head-federation, head-reserved, head-flags, head-visibility, head-accepted)
 
@@ -86,47 +90,51 @@ module _ (n extents count : ℕ) where
 
 -- ---- 5
 
-module _ (h : Header) (n : ℕ) (place : ℕ) (p : place ≡ bloomPlace (bloomSize h)) where
-  pub layout-bloom : (bloomOffset h ≡ place → ⊥) → Refused (refusal Layout 0) ≡ layoutVerdict v3 h n
+-- so many records of a shape have a number of bytes
+pub records-fit : (sh : Shape) → Shaped sh → (n : ℕ) → n ≤ 65536 → sh .«record_size» * n < 18446744073709551616
+records-fit sh w n l = omega (arith, mul-le-mul (shaped-most sh w) l)
+
+module _ (sh : Shape) (h : Header) (n : ℕ) (place : ℕ) (p : place ≡ bloomPlace (bloomSize h)) where
+  pub layout-bloom : (bloomOffset h ≡ place → ⊥) → Refused (refusal Layout 0) ≡ layoutVerdict sh h n
   unfolding layoutVerdict
   layout-bloom b = rw (← p) (simp tests)
 
   module _ (b : bloomOffset h ≡ place) where
-    pub layout-bloom-size : (bloomSize h % 8 ≡ 0 → ⊥) → Refused (refusal Layout 0) ≡ layoutVerdict v3 h n
+    pub layout-bloom-size : (bloomSize h % 8 ≡ 0 → ⊥) → Refused (refusal Layout 0) ≡ layoutVerdict sh h n
     unfolding layoutVerdict
     layout-bloom-size z = rw (← p) (simp tests)
 
     module _ (z : bloomSize h % 8 ≡ 0) where
-      pub layout-count : 65536 < recordCount h → Refused (refusal Layout 0) ≡ layoutVerdict v3 h n
+      pub layout-count : 65536 < recordCount h → Refused (refusal Layout 0) ≡ layoutVerdict sh h n
       unfolding layoutVerdict
       layout-count c = rw (← p) (simp tests)
 
       module _ (c : recordCount h ≤ 65536) (t₁ : Bool) (e₁ : t₁ ≡ eqb (recordsOffset h) (112 + bloomSize h)) where
-        pub layout-records : not t₁ ≡ true → Refused (refusal Layout 0) ≡ layoutVerdict v3 h n
+        pub layout-records : not t₁ ≡ true → Refused (refusal Layout 0) ≡ layoutVerdict sh h n
         unfolding layoutVerdict
         layout-records f = rw (← p) (simp (tests, was-false e₁ f))
 
-        module _ (f₁ : not t₁ ≡ false) (t₂ : Bool) (e₂ : t₂ ≡ eqb (digestsOffset h) (recordsOffset h + 48 * recordCount h)) where
-          pub layout-digests : not t₂ ≡ true → Refused (refusal Layout 0) ≡ layoutVerdict v3 h n
+        module _ (f₁ : not t₁ ≡ false) (t₂ : Bool) (e₂ : t₂ ≡ eqb (digestsOffset h) (recordsOffset h + sh .«record_size» * recordCount h)) where
+          pub layout-digests : not t₂ ≡ true → Refused (refusal Layout 0) ≡ layoutVerdict sh h n
           unfolding layoutVerdict
           layout-digests f = rw (← p) (simp (tests, was-true e₁ f₁, was-false e₂ f))
 
           module _ (f₂ : not t₂ ≡ false) where
-            pub layout-digests-size : (digestsSize h % 8 ≡ 0 → ⊥) → Refused (refusal Layout 0) ≡ layoutVerdict v3 h n
+            pub layout-digests-size : (digestsSize h % 8 ≡ 0 → ⊥) → Refused (refusal Layout 0) ≡ layoutVerdict sh h n
             unfolding layoutVerdict
             layout-digests-size d = rw (← p) (simp (tests, was-true e₁ f₁, was-true e₂ f₂))
 
             module _ (d : digestsSize h % 8 ≡ 0) (t₃ : Bool) (e₃ : t₃ ≡ eqb (extentsOffset h) (digestsOffset h + digestsSize h)) where
-              pub layout-extents : not t₃ ≡ true → Refused (refusal Layout 0) ≡ layoutVerdict v3 h n
+              pub layout-extents : not t₃ ≡ true → Refused (refusal Layout 0) ≡ layoutVerdict sh h n
               unfolding layoutVerdict
               layout-extents f = rw (← p) (simp (tests, was-true e₁ f₁, was-true e₂ f₂, was-false e₃ f))
 
               module _ (f₃ : not t₃ ≡ false) (t₄ : Bool) (e₄ : t₄ ≡ eqb n (extentsOffset h + 16 * extentCount h + 24)) where
-                pub layout-file : not t₄ ≡ true → Refused (refusal Layout 0) ≡ layoutVerdict v3 h n
+                pub layout-file : not t₄ ≡ true → Refused (refusal Layout 0) ≡ layoutVerdict sh h n
                 unfolding layoutVerdict
                 layout-file f = rw (← p) (simp (tests, was-true e₁ f₁, was-true e₂ f₂, was-true e₃ f₃, was-false e₄ f))
 
-                pub layout-accepted : not t₄ ≡ false → Accepted ≡ layoutVerdict v3 h n
+                pub layout-accepted : not t₄ ≡ false → Accepted ≡ layoutVerdict sh h n
                 unfolding layoutVerdict
                 layout-accepted f = rw (← p) (simp (tests, was-true e₁ f₁, was-true e₂ f₂, was-true e₃ f₃, was-true e₄ f))
 

@@ -5,9 +5,9 @@ use Prim.Native.Nat.{ℕ}
 use Rattle.answer.specs.declared.Verdict.{Verdict}
 use Rattle.answer.specs.Rules.{_then_}
 use Rattle.segment.specs.declared.header.Header.{Header}
-use Rattle.segment.specs.Format.{v3}
+use Rattle.segment.specs.declared.shape.Shape.{Shape}
 use Rattle.segment.specs.Check.{headVerdict, layoutVerdict}
 
 -- 2 to 5, of a file of n bytes
-unfoldable pub headerRules : Header → ℕ → Verdict
-headerRules h n = headVerdict v3 h then layoutVerdict v3 h n
+unfoldable pub headerRules : Shape → Header → ℕ → Verdict
+headerRules sh h n = headVerdict sh h then layoutVerdict sh h n

@@ -3,7 +3,8 @@ ghost use mathlib.Core.Path.{_≡_};
 ghost use Prim.Native.Nat.{_+_, _*_, _≤_};
 ghost use lib.Dec.{eqb};
 ghost use lib.ListN.{length};
-ghost use Rattle.segment.specs.Format.{v3};
+ghost use Rattle.segment.specs.Format.{footerSize};
+ghost use Rattle.segment.specs.Shapes.{Shaped};
 ghost use Rattle.segment.specs.Check.{headVerdict, layoutVerdict, checksumVerdict};
 ghost use Rattle.check_header.specs.HeaderRules.{headerRules};
 use answer::Refusal;
@@ -14,15 +15,15 @@ use segment::extent::Extent;
 use segment::footer::Footer;
 use segment::header;
 use segment::header::Header;
-use segment::record::Record;
+use segment::shape::Shape;
 
-fn check_head(h: Header) -> Verdict
-    ensures { λ r. ⌜ r ≡ headVerdict v3 h ⌝ }
+fn check_head(sh: Shape, h: Header) -> Verdict
+    ensures { λ r. ⌜ r ≡ headVerdict sh h ⌝ }
 {
-    if h.magic != Header::MAGIC {
+    if h.magic != sh.magic {
         return Verdict::Refused(Refusal(Rule::Magic, 0));
     }
-    if h.version != Header::VERSION {
+    if h.version != sh.version {
         return Verdict::Refused(Refusal(Rule::Version, 0));
     }
     if h.header_size != Header::STATED {
@@ -71,8 +72,9 @@ fn ends_so(n: u64, extents: u64, count: u64) -> bool
     rest / Extent::LONG == count
 }
 
-fn check_layout(h: Header, n: u64) -> Verdict
-    ensures { λ r. ⌜ r ≡ layoutVerdict v3 h n ⌝ }
+fn check_layout(sh: Shape, h: Header, n: u64) -> Verdict
+    requires { ⌜ Shaped sh ⌝ }
+    ensures { λ r. ⌜ r ≡ layoutVerdict sh h n ⌝ }
 {
     if h.bloom_offset.0 != header::bloom_place(h.bloom_size) {
         return Verdict::Refused(Refusal(Rule::Layout, 0));
@@ -89,7 +91,7 @@ fn check_layout(h: Header, n: u64) -> Verdict
     if !is_sum(
         h.digests_offset.0,
         h.records_offset.0,
-        Record::LONG * h.record_count,
+        sh.record_size as u64 * h.record_count,
     ) {
         return Verdict::Refused(Refusal(Rule::Layout, 0));
     }
@@ -106,20 +108,21 @@ fn check_layout(h: Header, n: u64) -> Verdict
 }
 
 // 2 to 5, of a file of n bytes.
-pub fn check_header(h: Header, n: u64) -> Verdict
-    ensures { λ r. ⌜ r ≡ headerRules h n ⌝ }
+pub fn check_header(sh: Shape, h: Header, n: u64) -> Verdict
+    requires { ⌜ Shaped sh ⌝ }
+    ensures { λ r. ⌜ r ≡ headerRules sh h n ⌝ }
 {
-    match check_head(h) {
+    match check_head(sh, h) {
         Verdict::Refused(r) => {
             return Verdict::Refused(r);
         }
         Verdict::Accepted => {}
     }
-    check_layout(h, n)
+    check_layout(sh, h, n)
 }
 
 pub fn check_checksum(seg: &[u8]) -> Verdict
-    requires { ⌜ 24 ≤ length (now seg) ⌝ }
+    requires { ⌜ footerSize ≤ length (now seg) ⌝ }
     ensures { λ r. ⌜ r ≡ checksumVerdict (now (seg .entry)) ⌝ }
 {
     let end = seg.len() - Footer::SIZE;

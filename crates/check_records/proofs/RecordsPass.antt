@@ -12,7 +12,8 @@ use Rattle.answer.specs.Rules.{_then_, firstOver}
 use Rattle.answer.proofs.Order.{then-assoc, first-none, first-more, first-refused}
 use Rattle.segment.specs.declared.header.Header.{Header}
 use Rattle.segment.specs.declared.record.Record.{Record}
-use Rattle.segment.specs.Format.{v3, recordOf, recordNo, recordsOffset}
+use Rattle.segment.specs.declared.shape.Shape.{Shape}
+use Rattle.segment.specs.Format.{recordOf, recordNo, recordAt, recordsOffset}
 use Rattle.segment.specs.Check.{placeFrom, marksVerdict, digestVerdict, extentsVerdict, totalVerdict, recordRules, recordVerdict, largestBelow, visibilityNo}
 use Rattle.check_extents.specs.ExtentRules.{slicesRules}
 use Rattle.check_records.specs.declared.Passed.the-variants.{Largest, Refused as NotPassed}
@@ -29,47 +30,47 @@ module _ (pairs : List ℕ) (h : Header) (r : Record) (k : ℕ) where
   unfolding identityRules
   marks-pass e f = rw e f
 
-module _ (pairs s : List ℕ) (h : Header) (r : Record) (k : ℕ) where
-  in-two : recordRules v3 pairs s h r k ≡ (identityRules pairs h r k then slicesRules s h r k)
+module _ (sh : Shape) (pairs s : List ℕ) (h : Header) (r : Record) (k : ℕ) where
+  in-two : recordRules sh pairs s h r k ≡ (identityRules pairs h r k then slicesRules sh s h r k)
   unfolding recordRules identityRules slicesRules
-  in-two = sym (then-assoc (marksVerdict h r k) (digestVerdict pairs h r k) (extentsVerdict h r k then totalVerdict v3 s r k))
+  in-two = sym (then-assoc (marksVerdict h r k) (digestVerdict pairs h r k) (extentsVerdict h r k then totalVerdict sh s r k))
 
-  pub identity-stop : (x : Refusal) → identityRules pairs h r k ≡ Refused x → Refused x ≡ recordRules v3 pairs s h r k
+  pub identity-stop : (x : Refusal) → identityRules pairs h r k ≡ Refused x → Refused x ≡ recordRules sh pairs s h r k
   identity-stop x e = sym (in-two ∙ rw e)
 
-  pub identity-pass : {v : Verdict} → identityRules pairs h r k ≡ Accepted → v ≡ slicesRules s h r k → v ≡ recordRules v3 pairs s h r k
+  pub identity-pass : {v : Verdict} → identityRules pairs h r k ≡ Accepted → v ≡ slicesRules sh s h r k → v ≡ recordRules sh pairs s h r k
   identity-pass e f = f ∙ sym (in-two ∙ rw e)
 
 -- ---- the pass over the records
 
 -- a pass has come to k, and nothing is refused below it
-pub record Passing (pairs s : List ℕ) (h : Header) (k largest : ℕ) : Type 0 where
-  pub accepted : firstOver k (recordVerdict v3 pairs s h) ≡ Accepted
-  pub shown : largest ≡ largestBelow k (visibilityNo v3 s h)
+pub record Passing (sh : Shape) (pairs s : List ℕ) (h : Header) (k largest : ℕ) : Type 0 where
+  pub accepted : firstOver k (recordVerdict sh pairs s h) ≡ Accepted
+  pub shown : largest ≡ largestBelow k (visibilityNo sh s h)
 
-pub pass-start : (pairs s : List ℕ) (h : Header) → Passing pairs s h 0 0
+pub pass-start : (sh : Shape) (pairs s : List ℕ) (h : Header) → Passing sh pairs s h 0 0
 unfolding largestBelow
-pass-start pairs s h = record { accepted = first-none (recordVerdict v3 pairs s h); shown = refl }
+pass-start sh pairs s h = record { accepted = first-none (recordVerdict sh pairs s h); shown = refl }
 
-module _ (pairs s : List ℕ) (h : Header) (k largest : ℕ) (r : Record) (p : Passing pairs s h k largest) (q : r ≡ recordOf v3 s (recordsOffset h + 48 * k))
-    (at : ℕ) (w : at ≡ placeFrom v3 (recordsOffset h) k) where
-  here : recordRules v3 pairs s h r at ≡ recordVerdict v3 pairs s h k
+module _ (sh : Shape) (pairs s : List ℕ) (h : Header) (k largest : ℕ) (r : Record) (p : Passing sh pairs s h k largest)
+    (begins : ℕ) (b : begins ≡ recordAt sh h k) (q : r ≡ recordOf sh s begins) (at : ℕ) (w : at ≡ placeFrom sh (recordsOffset h) k) where
+  here : recordRules sh pairs s h r at ≡ recordVerdict sh pairs s h k
   unfolding recordVerdict recordNo
-  here = rw (q, w)
+  here = rw (q, b, w)
 
-  pub pass-refused : (n : ℕ) (x : Refusal) → k < n → recordRules v3 pairs s h r at ≡ Refused x → NotPassed x ≡ passed pairs s h n
+  pub pass-refused : (n : ℕ) (x : Refusal) → k < n → recordRules sh pairs s h r at ≡ Refused x → NotPassed x ≡ passed sh pairs s h n
   unfolding passed
-  pass-refused n x l e = rw (first-refused n k (recordVerdict v3 pairs s h) x l (p .accepted) (sym here ∙ e))
+  pass-refused n x l e = rw (first-refused n k (recordVerdict sh pairs s h) x l (p .accepted) (sym here ∙ e))
 
-  pub pass-more : (m : ℕ) → recordRules v3 pairs s h r at ≡ Accepted → m ≡ max largest (r .visibility) → Passing pairs s h (k + 1) m
+  pub pass-more : (m : ℕ) → recordRules sh pairs s h r at ≡ Accepted → m ≡ max largest (r .visibility) → Passing sh pairs s h (k + 1) m
   unfolding largestBelow visibilityNo recordNo
   pass-more m e f = record {
-    accepted = first-more k (recordVerdict v3 pairs s h) (p .accepted) (sym here ∙ e);
-    shown = f ∙ rw (add-one, p .shown, q);
+    accepted = first-more k (recordVerdict sh pairs s h) (p .accepted) (sym here ∙ e);
+    shown = f ∙ rw (add-one, p .shown, q, b);
   }
 
-pub pass-done : (pairs s : List ℕ) (h : Header) (n k largest : ℕ) → Passing pairs s h k largest → k ≤ n → n ≤ k → Largest largest ≡ passed pairs s h n
+pub pass-done : (sh : Shape) (pairs s : List ℕ) (h : Header) (n k largest : ℕ) → Passing sh pairs s h k largest → k ≤ n → n ≤ k → Largest largest ≡ passed sh pairs s h n
 unfolding passed
-pass-done pairs s h n k largest p a b =
+pass-done sh pairs s h n k largest p a b =
     let e : n ≡ k = omega arith in
     rw (e, p .accepted, ← p .shown)

@@ -8,7 +8,7 @@ use Rattle.answer.specs.declared.Verdict.{Verdict}
 use Rattle.answer.specs.Rules.{_then_, firstOver, after}
 use Rattle.segment.specs.declared.header.Header.{Header}
 use Rattle.segment.specs.declared.record.Record.{Record}
-use Rattle.segment.specs.Format.{v3}
+use Rattle.segment.specs.declared.shape.Shape.{Shape}
 use Rattle.segment.specs.Check.{marksVerdict, digestVerdict, recordVerdict, largestBelow, visibilityNo}
 use Rattle.check_records.specs.declared.Passed.{Passed}
 use Rattle.check_records.specs.declared.Passed.the-variants.{Largest, Refused}
@@ -16,5 +16,5 @@ use Rattle.check_records.specs.declared.Passed.the-variants.{Largest, Re
 unfoldable pub identityRules : List ℕ → Header → Record → ℕ → Verdict
 identityRules pairs h r k = marksVerdict h r k then digestVerdict pairs h r k
 
-unfoldable pub passed : List ℕ → List ℕ → Header → ℕ → Passed
-passed pairs s h n = after Refused (firstOver n (recordVerdict v3 pairs s h)) (Largest (largestBelow n (visibilityNo v3 s h)))
+unfoldable pub passed : Shape → List ℕ → List ℕ → Header → ℕ → Passed
+passed sh pairs s h n = after Refused (firstOver n (recordVerdict sh pairs s h)) (Largest (largestBelow n (visibilityNo sh s h)))

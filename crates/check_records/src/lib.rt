@@ -3,9 +3,8 @@ ghost use mathlib.Core.Path.{_≡_};
 ghost use mathlib.Core.Bool.{_||_};
 ghost use lib.Dec.{eqb};
 ghost use Prim.Native.Nat.{max};
-ghost use Rattle.segment.specs.Format.{v3};
 ghost use Rattle.segment.specs.Check.{marksVerdict, digestVerdict, recordRules};
-ghost use Rattle.check_book.specs.Readable.{Laid};
+ghost use Rattle.check_book.specs.Readable.{Laid, Inside};
 ghost use Rattle.check_records.specs.RecordsPassed.{identityRules, passed};
 use answer::Refusal;
 use answer::Rule;
@@ -13,6 +12,7 @@ use answer::Verdict;
 use segment::header::Header;
 use segment::record;
 use segment::record::Record;
+use segment::shape::Shape;
 
 // What the pass over the records came to: the largest visibility, or the first refusal.
 pub enum Passed {
@@ -57,7 +57,7 @@ fn check_marks(h: Header, r: Record, place: u64) -> Verdict
 }
 
 fn check_digest(pairs: &[u64], seg: &[u8], h: Header, r: Record, place: u64) -> Verdict
-    requires { ⌜ Laid v3 (now seg) h ⌝ }
+    requires { ⌜ Inside (now seg) h ⌝ }
     ensures { λ v. ⌜ v ≡ digestVerdict (now (pairs .entry)) h r place ⌝ }
 {
     let size = r.digest_length as u64;
@@ -80,7 +80,7 @@ fn check_digest(pairs: &[u64], seg: &[u8], h: Header, r: Record, place: u64) -> 
 
 // 7 and 8.
 fn check_identity(pairs: &[u64], seg: &[u8], h: Header, r: Record, place: u64) -> Verdict
-    requires { ⌜ Laid v3 (now seg) h ⌝ }
+    requires { ⌜ Inside (now seg) h ⌝ }
     ensures { λ v. ⌜ v ≡ identityRules (now (pairs .entry)) h r place ⌝ }
 {
     match check_marks(h, r, place) {
@@ -92,9 +92,9 @@ fn check_identity(pairs: &[u64], seg: &[u8], h: Header, r: Record, place: u64) -
     check_digest(pairs, seg, h, r, place)
 }
 
-fn check_record(pairs: &[u64], seg: &[u8], h: Header, r: Record, place: u64) -> Verdict
-    requires { ⌜ Laid v3 (now seg) h ⌝ }
-    ensures { λ v. ⌜ v ≡ recordRules v3 (now (pairs .entry)) (now (seg .entry)) h r place ⌝ }
+fn check_record(sh: Shape, pairs: &[u64], seg: &[u8], h: Header, r: Record, place: u64) -> Verdict
+    requires { ⌜ Inside (now seg) h ⌝ }
+    ensures { λ v. ⌜ v ≡ recordRules sh (now (pairs .entry)) (now (seg .entry)) h r place ⌝ }
 {
     match check_identity(pairs, seg, h, r, place) {
         Verdict::Refused(x) => {
@@ -102,7 +102,7 @@ fn check_record(pairs: &[u64], seg: &[u8], h: Header, r: Record, place: u64) -> 
         }
         Verdict::Accepted => {}
     }
-    check_extents::check_slices(seg, h, r, place)
+    check_extents::check_slices(sh, seg, h, r, place)
 }
 
 // What a record counts with towards the header's visibility: its own, gone or not.
@@ -118,17 +118,17 @@ fn larger(a: u8, b: u8) -> u8
     if a < b { b } else { a }
 }
 
-pub fn check_records(pairs: &[u64], seg: &[u8], h: Header) -> Passed
-    requires { ⌜ Laid v3 (now seg) h ⌝ }
-    ensures { λ p. ⌜ p ≡ passed (now (pairs .entry)) (now (seg .entry)) h (h .«record_count») ⌝ }
+pub fn check_records(sh: Shape, pairs: &[u64], seg: &[u8], h: Header) -> Passed
+    requires { ⌜ Laid sh (now seg) h ⌝ }
+    ensures { λ p. ⌜ p ≡ passed sh (now (pairs .entry)) (now (seg .entry)) h (h .«record_count») ⌝ }
 {
     let count = h.record_count as usize;
     let first = h.records_offset.0 as usize;
     let mut largest: u8 = 0;
     let mut k = 0;
     while k < count {
-        let r = Record::at(seg, first + Record::SIZE * k);
-        match check_record(pairs, seg, h, r, record::place_of(first, k)) {
+        let r = Record::at(sh, seg, record::begins(sh, first, k));
+        match check_record(sh, pairs, seg, h, r, record::place_of(sh, first, k)) {
             Verdict::Refused(x) => {
                 return Passed::Refused(x);
             }

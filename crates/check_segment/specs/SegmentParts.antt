@@ -7,16 +7,17 @@ use mathlib.Core.List.{List}
 use Rattle.answer.specs.declared.Verdict.{Verdict}
 use Rattle.answer.specs.Rules.{_then_, firstOver}
 use Rattle.segment.specs.declared.header.Header.{Header}
-use Rattle.segment.specs.Format.{v3, recordCount}
+use Rattle.segment.specs.declared.shape.Shape.{Shape}
+use Rattle.segment.specs.Format.{recordCount}
 use Rattle.segment.specs.Keys.{freshKey}
 use Rattle.segment.specs.Check.{checksumVerdict, recordVerdict, visibilityVerdict, keyNo, recordPlace}
 
-unfoldable pub contentsVerdict : List ℕ → List ℕ → Header → Verdict
-contentsVerdict pairs s h =
-    firstOver (recordCount h) (recordVerdict v3 pairs s h)
-    then visibilityVerdict v3 s h
-    then firstOver (recordCount h) (freshKey (keyNo v3 s h) (recordPlace v3 h))
+unfoldable pub contentsVerdict : Shape → List ℕ → List ℕ → Header → Verdict
+contentsVerdict sh pairs s h =
+    firstOver (recordCount h) (recordVerdict sh pairs s h)
+    then visibilityVerdict sh s h
+    then firstOver (recordCount h) (freshKey (keyNo sh s h) (recordPlace sh h))
 
 -- the checksum, and then the contents
-unfoldable pub bodyRules : List ℕ → List ℕ → Header → Verdict
-bodyRules pairs s h = checksumVerdict s then contentsVerdict pairs s h
+unfoldable pub bodyRules : Shape → List ℕ → List ℕ → Header → Verdict
+bodyRules sh pairs s h = checksumVerdict s then contentsVerdict sh pairs s h

@@ -3,7 +3,8 @@ ghost use mathlib.Core.Path.{_≡_};
 ghost use Prim.Native.Nat.{_≤_};
 ghost use lib.ListN.{length};
 ghost use Rattle.answer.specs.Answers.{checkAnswer};
-ghost use Rattle.segment.specs.Format.{v3};
+ghost use Rattle.segment.specs.Format.{v3, fileLimit};
+ghost use Rattle.segment.specs.Shapes.{Shaped};
 ghost use Rattle.segment.specs.Check.{segmentRules, segmentVerdict, checkOf};
 ghost use Rattle.check_book.specs.Readable.{Laid};
 ghost use Rattle.check_segment.specs.SegmentParts.{contentsVerdict, bodyRules};
@@ -14,6 +15,7 @@ use check_records::Passed;
 use key::Kind;
 use segment::footer::Footer;
 use segment::header::Header;
+use segment::shape::Shape;
 
 // A segment's length at the least and at the most: a header and a footer; one GiB.
 const LEAST: usize = Header::SIZE + Footer::SIZE;
@@ -21,11 +23,11 @@ const LEAST: usize = Header::SIZE + Footer::SIZE;
 const LIMIT: usize = segment::LIMIT as usize;
 
 // Records, visibility and duplicates, of a segment whose header, layout and checksum are right.
-fn check_contents(pairs: &[u64], seg: &[u8], h: Header) -> Verdict
-    requires { ⌜ Laid v3 (now seg) h ⌝ }
-    ensures { λ r. ⌜ r ≡ contentsVerdict (now (pairs .entry)) (now (seg .entry)) h ⌝ }
+fn check_contents(sh: Shape, pairs: &[u64], seg: &[u8], h: Header) -> Verdict
+    requires { ⌜ Laid sh (now seg) h ⌝ }
+    ensures { λ r. ⌜ r ≡ contentsVerdict sh (now (pairs .entry)) (now (seg .entry)) h ⌝ }
 {
-    match check_records::check_records(pairs, seg, h) {
+    match check_records::check_records(sh, pairs, seg, h) {
         Passed::Refused(r) => {
             return Verdict::Refused(r);
         }
@@ -37,16 +39,16 @@ fn check_contents(pairs: &[u64], seg: &[u8], h: Header) -> Verdict
     }
     let at = h.records_offset.0 as usize;
     let n = h.record_count as usize;
-    if key_ascending::keys_climb(Kind::Records(at), seg, &key::NO_LIST, n) {
+    if key_ascending::keys_climb(Kind::Records(at, sh), seg, &key::NO_LIST, n) {
         return Verdict::Accepted;
     }
-    key_duplicate::check_keys(Kind::Records(at), seg, &key::NO_LIST, n)
+    key_duplicate::check_keys(Kind::Records(at, sh), seg, &key::NO_LIST, n)
 }
 
 // The checksum, and then the contents.
-fn check_body(pairs: &[u64], seg: &[u8], h: Header) -> Verdict
-    requires { ⌜ Laid v3 (now seg) h ⌝ }
-    ensures { λ r. ⌜ r ≡ bodyRules (now (pairs .entry)) (now (seg .entry)) h ⌝ }
+fn check_body(sh: Shape, pairs: &[u64], seg: &[u8], h: Header) -> Verdict
+    requires { ⌜ Laid sh (now seg) h ⌝ }
+    ensures { λ r. ⌜ r ≡ bodyRules sh (now (pairs .entry)) (now (seg .entry)) h ⌝ }
 {
     match check_header::check_checksum(seg) {
         Verdict::Refused(r) => {
@@ -54,20 +56,21 @@ fn check_body(pairs: &[u64], seg: &[u8], h: Header) -> Verdict
         }
         Verdict::Accepted => {}
     }
-    check_contents(pairs, seg, h)
+    check_contents(sh, pairs, seg, h)
 }
 
-fn check_rules(pairs: &[u64], seg: &[u8], h: Header) -> Verdict
-    requires { ⌜ length (now seg) ≤ 1073741824 ⌝ }
-    ensures { λ r. ⌜ r ≡ segmentRules v3 (now (pairs .entry)) (now (seg .entry)) h ⌝ }
+fn check_rules(sh: Shape, pairs: &[u64], seg: &[u8], h: Header) -> Verdict
+    requires { ⌜ Shaped sh ⌝ }
+    requires { ⌜ length (now seg) ≤ fileLimit ⌝ }
+    ensures { λ r. ⌜ r ≡ segmentRules sh (now (pairs .entry)) (now (seg .entry)) h ⌝ }
 {
-    match check_header::check_header(h, seg.len() as u64) {
+    match check_header::check_header(sh, h, seg.len() as u64) {
         Verdict::Refused(r) => {
             return Verdict::Refused(r);
         }
         Verdict::Accepted => {}
     }
-    check_body(pairs, seg, h)
+    check_body(sh, pairs, seg, h)
 }
 
 // Everything but the table.
@@ -80,7 +83,7 @@ pub fn check_segment(pairs: &[u64], seg: &[u8]) -> Verdict
     if LIMIT < seg.len() {
         return Verdict::Refused(Refusal(Rule::Size, 0));
     }
-    check_rules(pairs, seg, Header::of(seg))
+    check_rules(Shape::V3, pairs, seg, Header::of(seg))
 }
 
 pub fn check(pairs: &[u64], seg: &[u8]) -> Verdict

@@ -3,27 +3,28 @@ ghost use mathlib.Core.Path.{_≡_};
 ghost use Prim.Native.Nat.{_+_, _≤_};
 ghost use lib.ListN.{length};
 ghost use Rattle.numbers.specs.Numbers.{numAt};
+ghost use Rattle.field_record.specs.Sizes.{footerSize};
 
 const SEAL_SNAPSHOT: usize = 8;
 
 const SEAL_TIME: usize = 16;
 
 pub fn checksum(seg: &[u8], at: usize) -> u64
-    requires { ⌜ at + 24 ≤ length (now seg) ⌝ }
+    requires { ⌜ at + footerSize ≤ length (now seg) ⌝ }
     ensures { λ r. ⌜ r ≡ numAt 8 (now (seg .entry)) at ⌝ }
 {
     numbers::u64_at(seg, at)
 }
 
 pub fn seal_snapshot(seg: &[u8], at: usize) -> u64
-    requires { ⌜ at + 24 ≤ length (now seg) ⌝ }
+    requires { ⌜ at + footerSize ≤ length (now seg) ⌝ }
     ensures { λ r. ⌜ r ≡ numAt 8 (now (seg .entry)) (at + 8) ⌝ }
 {
     numbers::u64_at(seg, at + SEAL_SNAPSHOT)
 }
 
 pub fn seal_time(seg: &[u8], at: usize) -> u64
-    requires { ⌜ at + 24 ≤ length (now seg) ⌝ }
+    requires { ⌜ at + footerSize ≤ length (now seg) ⌝ }
     ensures { λ r. ⌜ r ≡ numAt 8 (now (seg .entry)) (at + 16) ⌝ }
 {
     numbers::u64_at(seg, at + SEAL_TIME)

@@ -3,6 +3,7 @@ ghost use mathlib.Core.Path.{_≡_};
 ghost use Prim.Native.Nat.{_≤_};
 ghost use lib.ListN.{length};
 ghost use Rattle.numbers.specs.Numbers.{numAt};
+ghost use Rattle.field_record.specs.Sizes.{headerSize};
 use field_record::FileOffset;
 
 pub const MAGIC: usize = 0;
@@ -44,133 +45,133 @@ pub const RESERVED: usize = 102;
 pub const FLAGS: usize = 104;
 
 pub fn magic(seg: &[u8]) -> u64
-    requires { ⌜ 112 ≤ length (now seg) ⌝ }
+    requires { ⌜ headerSize ≤ length (now seg) ⌝ }
     ensures { λ r. ⌜ r ≡ numAt 8 (now (seg .entry)) 0 ⌝ }
 {
     numbers::u64_at(seg, MAGIC)
 }
 
 pub fn version(seg: &[u8]) -> u16
-    requires { ⌜ 112 ≤ length (now seg) ⌝ }
+    requires { ⌜ headerSize ≤ length (now seg) ⌝ }
     ensures { λ r. ⌜ r ≡ numAt 2 (now (seg .entry)) 8 ⌝ }
 {
     numbers::u16_at(seg, VERSION)
 }
 
 pub fn shard(seg: &[u8]) -> u16
-    requires { ⌜ 112 ≤ length (now seg) ⌝ }
+    requires { ⌜ headerSize ≤ length (now seg) ⌝ }
     ensures { λ r. ⌜ r ≡ numAt 2 (now (seg .entry)) 10 ⌝ }
 {
     numbers::u16_at(seg, SHARD)
 }
 
 pub fn header_size(seg: &[u8]) -> u32
-    requires { ⌜ 112 ≤ length (now seg) ⌝ }
+    requires { ⌜ headerSize ≤ length (now seg) ⌝ }
     ensures { λ r. ⌜ r ≡ numAt 4 (now (seg .entry)) 12 ⌝ }
 {
     numbers::u32_at(seg, HEADER_SIZE)
 }
 
 pub fn snapshot_min(seg: &[u8]) -> u64
-    requires { ⌜ 112 ≤ length (now seg) ⌝ }
+    requires { ⌜ headerSize ≤ length (now seg) ⌝ }
     ensures { λ r. ⌜ r ≡ numAt 8 (now (seg .entry)) 16 ⌝ }
 {
     numbers::u64_at(seg, SNAPSHOT_MIN)
 }
 
 pub fn snapshot_max(seg: &[u8]) -> u64
-    requires { ⌜ 112 ≤ length (now seg) ⌝ }
+    requires { ⌜ headerSize ≤ length (now seg) ⌝ }
     ensures { λ r. ⌜ r ≡ numAt 8 (now (seg .entry)) 24 ⌝ }
 {
     numbers::u64_at(seg, SNAPSHOT_MAX)
 }
 
 pub fn record_count(seg: &[u8]) -> u64
-    requires { ⌜ 112 ≤ length (now seg) ⌝ }
+    requires { ⌜ headerSize ≤ length (now seg) ⌝ }
     ensures { λ r. ⌜ r ≡ numAt 8 (now (seg .entry)) 32 ⌝ }
 {
     numbers::u64_at(seg, RECORD_COUNT)
 }
 
 pub fn records_offset(seg: &[u8]) -> FileOffset
-    requires { ⌜ 112 ≤ length (now seg) ⌝ }
+    requires { ⌜ headerSize ≤ length (now seg) ⌝ }
     ensures { λ r. ⌜ r .0 ≡ numAt 8 (now (seg .entry)) 40 ⌝ }
 {
     FileOffset(numbers::u64_at(seg, RECORDS_OFFSET))
 }
 
 pub fn bloom_offset(seg: &[u8]) -> FileOffset
-    requires { ⌜ 112 ≤ length (now seg) ⌝ }
+    requires { ⌜ headerSize ≤ length (now seg) ⌝ }
     ensures { λ r. ⌜ r .0 ≡ numAt 8 (now (seg .entry)) 48 ⌝ }
 {
     FileOffset(numbers::u64_at(seg, BLOOM_OFFSET))
 }
 
 pub fn bloom_size(seg: &[u8]) -> u64
-    requires { ⌜ 112 ≤ length (now seg) ⌝ }
+    requires { ⌜ headerSize ≤ length (now seg) ⌝ }
     ensures { λ r. ⌜ r ≡ numAt 8 (now (seg .entry)) 56 ⌝ }
 {
     numbers::u64_at(seg, BLOOM_SIZE)
 }
 
 pub fn digests_offset(seg: &[u8]) -> FileOffset
-    requires { ⌜ 112 ≤ length (now seg) ⌝ }
+    requires { ⌜ headerSize ≤ length (now seg) ⌝ }
     ensures { λ r. ⌜ r .0 ≡ numAt 8 (now (seg .entry)) 64 ⌝ }
 {
     FileOffset(numbers::u64_at(seg, DIGESTS_OFFSET))
 }
 
 pub fn digests_size(seg: &[u8]) -> u64
-    requires { ⌜ 112 ≤ length (now seg) ⌝ }
+    requires { ⌜ headerSize ≤ length (now seg) ⌝ }
     ensures { λ r. ⌜ r ≡ numAt 8 (now (seg .entry)) 72 ⌝ }
 {
     numbers::u64_at(seg, DIGESTS_SIZE)
 }
 
 pub fn extents_offset(seg: &[u8]) -> FileOffset
-    requires { ⌜ 112 ≤ length (now seg) ⌝ }
+    requires { ⌜ headerSize ≤ length (now seg) ⌝ }
     ensures { λ r. ⌜ r .0 ≡ numAt 8 (now (seg .entry)) 80 ⌝ }
 {
     FileOffset(numbers::u64_at(seg, EXTENTS_OFFSET))
 }
 
 pub fn extent_count(seg: &[u8]) -> u64
-    requires { ⌜ 112 ≤ length (now seg) ⌝ }
+    requires { ⌜ headerSize ≤ length (now seg) ⌝ }
     ensures { λ r. ⌜ r ≡ numAt 8 (now (seg .entry)) 88 ⌝ }
 {
     numbers::u64_at(seg, EXTENT_COUNT)
 }
 
 pub fn domain(seg: &[u8]) -> u32
-    requires { ⌜ 112 ≤ length (now seg) ⌝ }
+    requires { ⌜ headerSize ≤ length (now seg) ⌝ }
     ensures { λ r. ⌜ r ≡ numAt 4 (now (seg .entry)) 96 ⌝ }
 {
     numbers::u32_at(seg, DOMAIN)
 }
 
 pub fn visibility(seg: &[u8]) -> u8
-    requires { ⌜ 112 ≤ length (now seg) ⌝ }
+    requires { ⌜ headerSize ≤ length (now seg) ⌝ }
     ensures { λ r. ⌜ r ≡ numAt 1 (now (seg .entry)) 100 ⌝ }
 {
     numbers::u8_at(seg, VISIBILITY)
 }
 
 pub fn federation(seg: &[u8]) -> u8
-    requires { ⌜ 112 ≤ length (now seg) ⌝ }
+    requires { ⌜ headerSize ≤ length (now seg) ⌝ }
     ensures { λ r. ⌜ r ≡ numAt 1 (now (seg .entry)) 101 ⌝ }
 {
     numbers::u8_at(seg, FEDERATION)
 }
 
 pub fn reserved(seg: &[u8]) -> u16
-    requires { ⌜ 112 ≤ length (now seg) ⌝ }
+    requires { ⌜ headerSize ≤ length (now seg) ⌝ }
     ensures { λ r. ⌜ r ≡ numAt 2 (now (seg .entry)) 102 ⌝ }
 {
     numbers::u16_at(seg, RESERVED)
 }
 
 pub fn flags(seg: &[u8]) -> u64
-    requires { ⌜ 112 ≤ length (now seg) ⌝ }
+    requires { ⌜ headerSize ≤ length (now seg) ⌝ }
     ensures { λ r. ⌜ r ≡ numAt 8 (now (seg .entry)) 104 ⌝ }
 {
     numbers::u64_at(seg, FLAGS)

@@ -3,6 +3,7 @@ ghost use mathlib.Core.Path.{_≡_};
 ghost use Prim.Native.Nat.{_+_, _≤_};
 ghost use lib.ListN.{length};
 ghost use Rattle.numbers.specs.Numbers.{numAt};
+ghost use Rattle.field_record.specs.Sizes.{extentSize};
 use crate::BlockOffset;
 
 const OFFSET: usize = 8;
@@ -10,21 +11,21 @@ const OFFSET: usize = 8;
 const LENGTH: usize = 12;
 
 pub fn block(seg: &[u8], at: usize) -> u64
-    requires { ⌜ at + 16 ≤ length (now seg) ⌝ }
+    requires { ⌜ at + extentSize ≤ length (now seg) ⌝ }
     ensures { λ r. ⌜ r ≡ numAt 8 (now (seg .entry)) at ⌝ }
 {
     numbers::u64_at(seg, at)
 }
 
 pub fn offset(seg: &[u8], at: usize) -> BlockOffset
-    requires { ⌜ at + 16 ≤ length (now seg) ⌝ }
+    requires { ⌜ at + extentSize ≤ length (now seg) ⌝ }
     ensures { λ r. ⌜ r .0 ≡ numAt 4 (now (seg .entry)) (at + 8) ⌝ }
 {
     BlockOffset(numbers::u32_at(seg, at + OFFSET))
 }
 
 pub fn length(seg: &[u8], at: usize) -> u32
-    requires { ⌜ at + 16 ≤ length (now seg) ⌝ }
+    requires { ⌜ at + extentSize ≤ length (now seg) ⌝ }
     ensures { λ r. ⌜ r ≡ numAt 4 (now (seg .entry)) (at + 12) ⌝ }
 {
     numbers::u32_at(seg, at + LENGTH)

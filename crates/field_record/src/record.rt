@@ -3,6 +3,7 @@ ghost use mathlib.Core.Path.{_≡_};
 ghost use Prim.Native.Nat.{_+_, _≤_};
 ghost use lib.ListN.{length};
 ghost use Rattle.numbers.specs.Numbers.{numAt};
+ghost use Rattle.field_record.specs.Sizes.{leastRecord, recordBytes, totalIn};
 use crate::FileOffset;
 
 const DIGEST_LENGTH: usize = 4;
@@ -29,92 +30,98 @@ const SOURCE: usize = 40;
 
 const FLAGS: usize = 44;
 
+const WIDE_TOTAL: usize = 48;
+
 pub fn hash_id(seg: &[u8], at: usize) -> u32
-    requires { ⌜ at + 48 ≤ length (now seg) ⌝ }
+    requires { ⌜ at + leastRecord ≤ length (now seg) ⌝ }
     ensures { λ r. ⌜ r ≡ numAt 4 (now (seg .entry)) at ⌝ }
 {
     numbers::u32_at(seg, at)
 }
 
 pub fn digest_length(seg: &[u8], at: usize) -> u16
-    requires { ⌜ at + 48 ≤ length (now seg) ⌝ }
+    requires { ⌜ at + leastRecord ≤ length (now seg) ⌝ }
     ensures { λ r. ⌜ r ≡ numAt 2 (now (seg .entry)) (at + 4) ⌝ }
 {
     numbers::u16_at(seg, at + DIGEST_LENGTH)
 }
 
 pub fn reserved(seg: &[u8], at: usize) -> u16
-    requires { ⌜ at + 48 ≤ length (now seg) ⌝ }
+    requires { ⌜ at + leastRecord ≤ length (now seg) ⌝ }
     ensures { λ r. ⌜ r ≡ numAt 2 (now (seg .entry)) (at + 6) ⌝ }
 {
     numbers::u16_at(seg, at + RESERVED)
 }
 
 pub fn digest_offset(seg: &[u8], at: usize) -> FileOffset
-    requires { ⌜ at + 48 ≤ length (now seg) ⌝ }
+    requires { ⌜ at + leastRecord ≤ length (now seg) ⌝ }
     ensures { λ r. ⌜ r .0 ≡ numAt 8 (now (seg .entry)) (at + 8) ⌝ }
 {
     FileOffset(numbers::u64_at(seg, at + DIGEST_OFFSET))
 }
 
 pub fn extents_offset(seg: &[u8], at: usize) -> FileOffset
-    requires { ⌜ at + 48 ≤ length (now seg) ⌝ }
+    requires { ⌜ at + leastRecord ≤ length (now seg) ⌝ }
     ensures { λ r. ⌜ r .0 ≡ numAt 8 (now (seg .entry)) (at + 16) ⌝ }
 {
     FileOffset(numbers::u64_at(seg, at + EXTENTS_OFFSET))
 }
 
 pub fn extent_count(seg: &[u8], at: usize) -> u32
-    requires { ⌜ at + 48 ≤ length (now seg) ⌝ }
+    requires { ⌜ at + leastRecord ≤ length (now seg) ⌝ }
     ensures { λ r. ⌜ r ≡ numAt 4 (now (seg .entry)) (at + 24) ⌝ }
 {
     numbers::u32_at(seg, at + EXTENT_COUNT)
 }
 
-pub fn total_length(seg: &[u8], at: usize) -> u64
-    requires { ⌜ at + 48 ≤ length (now seg) ⌝ }
-    ensures { λ r. ⌜ r ≡ numAt 4 (now (seg .entry)) (at + 28) ⌝ }
+// A total has four bytes, or eight behind all else.
+pub fn total_length(seg: &[u8], at: usize, wide: bool) -> u64
+    requires { ⌜ at + recordBytes wide ≤ length (now seg) ⌝ }
+    ensures { λ r. ⌜ r ≡ totalIn wide (now (seg .entry)) at ⌝ }
 {
+    if wide {
+        return numbers::u64_at(seg, at + WIDE_TOTAL);
+    }
     numbers::u32_at(seg, at + TOTAL_LENGTH) as u64
 }
 
 pub fn domain(seg: &[u8], at: usize) -> u32
-    requires { ⌜ at + 48 ≤ length (now seg) ⌝ }
+    requires { ⌜ at + leastRecord ≤ length (now seg) ⌝ }
     ensures { λ r. ⌜ r ≡ numAt 4 (now (seg .entry)) (at + 32) ⌝ }
 {
     numbers::u32_at(seg, at + DOMAIN)
 }
 
 pub fn visibility(seg: &[u8], at: usize) -> u8
-    requires { ⌜ at + 48 ≤ length (now seg) ⌝ }
+    requires { ⌜ at + leastRecord ≤ length (now seg) ⌝ }
     ensures { λ r. ⌜ r ≡ numAt 1 (now (seg .entry)) (at + 36) ⌝ }
 {
     numbers::u8_at(seg, at + VISIBILITY)
 }
 
 pub fn imported(seg: &[u8], at: usize) -> u8
-    requires { ⌜ at + 48 ≤ length (now seg) ⌝ }
+    requires { ⌜ at + leastRecord ≤ length (now seg) ⌝ }
     ensures { λ r. ⌜ r ≡ numAt 1 (now (seg .entry)) (at + 37) ⌝ }
 {
     numbers::u8_at(seg, at + IMPORTED)
 }
 
 pub fn reserved_last(seg: &[u8], at: usize) -> u16
-    requires { ⌜ at + 48 ≤ length (now seg) ⌝ }
+    requires { ⌜ at + leastRecord ≤ length (now seg) ⌝ }
     ensures { λ r. ⌜ r ≡ numAt 2 (now (seg .entry)) (at + 38) ⌝ }
 {
     numbers::u16_at(seg, at + RESERVED_LAST)
 }
 
 pub fn source(seg: &[u8], at: usize) -> u32
-    requires { ⌜ at + 48 ≤ length (now seg) ⌝ }
+    requires { ⌜ at + leastRecord ≤ length (now seg) ⌝ }
     ensures { λ r. ⌜ r ≡ numAt 4 (now (seg .entry)) (at + 40) ⌝ }
 {
     numbers::u32_at(seg, at + SOURCE)
 }
 
 pub fn flags(seg: &[u8], at: usize) -> u32
-    requires { ⌜ at + 48 ≤ length (now seg) ⌝ }
+    requires { ⌜ at + leastRecord ≤ length (now seg) ⌝ }
     ensures { λ r. ⌜ r ≡ numAt 4 (now (seg .entry)) (at + 44) ⌝ }
 {
     numbers::u32_at(seg, at + FLAGS)

@@ -23,7 +23,7 @@ use mathlib.Core.List.{
   perm-ext-iff-of-nodup,
 }
 use native.Mathlib.Nat.{ℕ-set}
-use Rattle.segment.specs.Format.{Shape}
+use Rattle.segment.specs.declared.shape.Shape.{Shape}
 use Rattle.lists.specs.Lists.{sortBy, Each, Ascending}
 use Rattle.segment.specs.Meets.{Meets}
 use Rattle.segment.specs.Meaning.{Row, rowKey, Meaning, meaningOf, SameMeaning}
@@ -31,7 +31,7 @@ use Rattle.segment.specs.Tidy.{formOf, rowLeq, tidyForm}
 use Rattle.lists.proofs.Lex.{lex-anti, key-order}
 use Rattle.lists.proofs.Arranged.{Anti, sort-permutes, sort-keeps, sort-ascends, sorts-same}
 use Rattle.form_laws.specs.Form.{KeysApart, Tidies}
-use Rattle.form_laws.proofs.Shapes.{Shaped}
+use Rattle.segment.specs.Shapes.{Shaped}
 use Rattle.form_laws.proofs.RoundTrip.{form-means, form-meets}
 use Rattle.form_laws.proofs.SortedForm.{tidy-form}
 

@@ -16,7 +16,7 @@ use Rattle.crc64.proofs.CrcLaws.{step-odd, step-even}
 use Rattle.segment.specs.declared.header.Header.{Header}
 use Rattle.segment.specs.declared.header.Heading.{Heading}
 use Rattle.segment.specs.declared.extent.Extent.{Extent}
-use Rattle.segment.specs.Format.{Shape}
+use Rattle.segment.specs.declared.shape.Shape.{Shape}
 use Rattle.segment.specs.Meaning.{Row, rowExtents}
 use Rattle.segment.specs.Tidy.{
   Field,

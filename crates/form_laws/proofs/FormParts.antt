@@ -11,12 +11,13 @@ use Rattle.crc64.specs.Crc.{crc}
 use Rattle.segment.specs.declared.header.Header.{Header}
 use Rattle.segment.specs.declared.header.Heading.{Heading}
 use Rattle.segment.specs.declared.footer.Footer.{Footer}
-use Rattle.segment.specs.Format.{Shape, recordsOffset, digestsOffset, extentsOffset}
+use Rattle.segment.specs.declared.shape.Shape.{Shape}
+use Rattle.segment.specs.Format.{recordsOffset, digestsOffset, extentsOffset}
 use Rattle.segment.specs.Meaning.{Row}
 use Rattle.segment.specs.Tidy.{packed, headerFields, footerFields, recordsBytes, digestSection, extentBytes, formHeader, formBody, formOf}
 use Rattle.form_laws.proofs.PartsAt.{HasAt, has-whole, has-left, has-right, has-taken}
 use Rattle.form_laws.proofs.Structures.{header-long}
-use Rattle.form_laws.proofs.Shapes.{Shaped}
+use Rattle.segment.specs.Shapes.{Shaped}
 use Rattle.form_laws.proofs.Sizes.{records-long, body-length, form-length}
 
 module _ (sh : Shape) (t : Heading) (bloom : List ℕ) (rs : List Row) where

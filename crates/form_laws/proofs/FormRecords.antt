@@ -11,7 +11,8 @@ use lib.ListN.{length, length-append}
 use Rattle.segment.specs.Keys.{keyFrom}
 use Rattle.segment.specs.declared.header.Header.{Header}
 use Rattle.segment.specs.declared.record.Record.{Record}
-use Rattle.segment.specs.Format.{Shape, fileLimit, recordOf, recordsOffset, digestsOffset, digestsSize, extentsOffset, extentCount, recordNo}
+use Rattle.segment.specs.declared.shape.Shape.{Shape}
+use Rattle.segment.specs.Format.{fileLimit, recordOf, recordsOffset, digestsOffset, digestsSize, extentsOffset, extentCount, recordNo}
 use Rattle.segment.specs.Check.{digestIn}
 use Rattle.segment.specs.Meets.{RecordMeets}
 use Rattle.segment.specs.Meaning.{Row, rowExtents, rowOf, rowNo}
@@ -21,7 +22,8 @@ use Rattle.segment.specs.Tidy.{packed, recordFields, recordFor, recordsBytes, d
 use Rattle.form_laws.specs.Form.{Writable}
 use Rattle.form_laws.proofs.PartsAt.{HasAt, has-left, has-right, has-taken}
 use Rattle.form_laws.proofs.Structures.{extents-long}
-use Rattle.form_laws.proofs.Shapes.{RecordFits, Shaped, record-long, record-read}
+use Rattle.segment.specs.Shapes.{Shaped}
+use Rattle.form_laws.proofs.Shapes.{RecordFits, record-long, record-read}
 use Rattle.form_laws.proofs.States.{Says, StateFits, state-fits, extents-meet, total-meets, state-read}
 
 pub record Bounded (h : Header) : Type 0 where
@@ -134,7 +136,7 @@ module _ (sh : Shape) (k : Shaped sh) (pairs s : List ℕ) (h : Header) (o : Bou
     first-reads = rw first-read (record { row = row-read; meets = first-meets })
 
     -- and the others stand behind it
-    others : Placed sh pairs s h rs (at + sh .recordSize) (digestAt + length (r .key .digest)) (extentsAt + 16 * length (rowExtents r))
+    others : Placed sh pairs s h rs (at + sh .«record_size») (digestAt + length (r .key .digest)) (extentsAt + 16 * length (rowExtents r))
     unfolding recordsBytes digestBytes extentBytes Each
     others = record {
       records = rw (record-long sh k first) at (has-right (packed (recordFields sh first)) _ (p .records));
@@ -150,7 +152,7 @@ module _ (sh : Shape) (k : Shaped sh) (pairs s : List ℕ) (h : Header) (o : Bou
 
   -- ---- all of them
 
-  pub rows-read : (rs : List Row) (at digestAt extentsAt j : ℕ) → Placed sh pairs s h rs at digestAt extentsAt → at ≡ recordsOffset h + sh .recordSize * j
+  pub rows-read : (rs : List Row) (at digestAt extentsAt j : ℕ) → Placed sh pairs s h rs at digestAt extentsAt → at ≡ recordsOffset h + sh .«record_size» * j
       → map (rowNo sh s h) (countFrom j (length rs)) ≡ rs
   unfolding rowNo recordNo countFrom
   rows-read [] at d e j p l = refl
@@ -160,11 +162,11 @@ module _ (sh : Shape) (k : Shaped sh) (pairs s : List ℕ) (h : Header) (o : Bou
       rw (← l) cc
 
   pub records-meet : (rs : List Row) (at digestAt extentsAt : ℕ) → Placed sh pairs s h rs at digestAt extentsAt
-      → (j : ℕ) → j < length rs → RecordMeets sh pairs s h (recordOf sh s (at + sh .recordSize * j))
+      → (j : ℕ) → j < length rs → RecordMeets sh pairs s h (recordOf sh s (at + sh .«record_size» * j))
   records-meet [] at d e p j l = absurd (not-suc-le-zero l)
   records-meet (r ∷ rs) at d e p zero l =
-      let here : at + sh .recordSize * 0 ≡ at = omega arith in
+      let here : at + sh .«record_size» * 0 ≡ at = omega arith in
       rw here (first-reads r rs at d e p .meets)
   records-meet (r ∷ rs) at d e p (suc j) l =
-      let there : at + sh .recordSize * suc j ≡ at + sh .recordSize + sh .recordSize * j = omega arith in
+      let there : at + sh .«record_size» * suc j ≡ at + sh .«record_size» + sh .«record_size» * j = omega arith in
       rw there (records-meet rs _ _ _ (others r rs at d e p) j (omega arith))

@@ -7,7 +7,7 @@ use mathlib.Core.List.{List, [], _∷_, map}
 use native.Mathlib.Decide.{decLe}
 use native.Mathlib.Omega.{arith}
 use lib.ListN.{length}
-use Rattle.segment.specs.Format.{Shape}
+use Rattle.segment.specs.declared.shape.Shape.{Shape}
 use Rattle.segment.specs.Meaning.{Row}
 use Rattle.lists.specs.Lists.{countFrom, Each}
 use Rattle.segment.specs.Tidy.{largestVisibility}

@@ -15,7 +15,8 @@ use Rattle.numbers.proofs.NumberLaws.{bytes-take, bytes-drop, num-fits}
 use Rattle.lists.proofs.Tests.{by-test}
 use Rattle.segment.specs.declared.header.Header.{Header}
 use Rattle.segment.specs.declared.record.Record.{Record}
-use Rattle.segment.specs.Format.{Shape, blockEnd, headerOf, recordOf, extentOf, footerOf, recordCount, bloomSize, recordNo, extentsAt, extentsIn}
+use Rattle.segment.specs.declared.shape.Shape.{Shape}
+use Rattle.segment.specs.Format.{blockEnd, headerOf, recordOf, extentOf, footerOf, recordCount, bloomSize, recordNo, extentsAt, extentsIn}
 use Rattle.segment.specs.Check.{isGone, digestIn, keyNo}
 use Rattle.segment.specs.Meets.{LayoutMeets, RecordMeets, LiveMeets, SumMeets, Meets}
 use Rattle.segment.specs.Meaning.{Row, rowKey, rowOf, rowNo, rowsOf, headingOf, meaningOf}

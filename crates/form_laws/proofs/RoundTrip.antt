@@ -14,7 +14,8 @@ use lib.ListN.{length}
 use Rattle.lists.proofs.Tests.{by-test}
 use Rattle.segment.specs.declared.header.Header.{Header}
 use Rattle.segment.specs.declared.header.Heading.{Heading}
-use Rattle.segment.specs.Format.{Shape, headerOf, footerOf, recordsOffset, digestsOffset, extentsOffset, recordNo}
+use Rattle.segment.specs.declared.shape.Shape.{Shape}
+use Rattle.segment.specs.Format.{headerOf, footerOf, recordsOffset, digestsOffset, extentsOffset, recordNo}
 use Rattle.segment.specs.Check.{bloomPlace, visibilityNo, keyNo}
 use Rattle.segment.specs.Meets.{LayoutMeets, ChecksumMeets, VisibilityMeets, KeysDiffer, SegmentMeets, Meets}
 use Rattle.segment.specs.Meaning.{Row, rowKey, rowOf, rowNo, rowsOf, headingOf, meaningOf}
@@ -24,7 +25,8 @@ use Rattle.form_laws.specs.Form.{Form}
 use Rattle.form_laws.proofs.PartsAt.{has-left, has-taken}
 use Rattle.form_laws.proofs.PackedFields.{Fits}
 use Rattle.form_laws.proofs.Structures.{header-read, footer-read}
-use Rattle.form_laws.proofs.Shapes.{Shaped}
+use Rattle.segment.specs.Shapes.{Shaped}
+use Rattle.segment.proofs.Shapes.{shaped-divides}
 use Rattle.form_laws.proofs.Sizes.{section-long, section-divides, form-length}
 use Rattle.form_laws.proofs.Checksum.{body-bytes, crc-fits}
 use Rattle.form_laws.proofs.FormRecords.{Bounded, Placed, rows-read, records-meet}
@@ -109,7 +111,7 @@ module _ (sh : Shape) (k : Shaped sh) (pairs : List ℕ) (t : Heading) (bloom : 
   unfolding formHeader
   layout-meets =
       let b = f .contents .bloomDivides in
-      let r = k .divides (length rs) in
+      let r = shaped-divides sh k (length rs) in
       let d = section-divides rs in
       record {
         noBloom = λ e. rw (eq-eqb (length bloom) 0 e);

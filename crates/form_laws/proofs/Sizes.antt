@@ -11,7 +11,7 @@ use Rattle.crc64.specs.Crc.{crc}
 use Rattle.segment.specs.declared.header.Header.{Header}
 use Rattle.segment.specs.declared.header.Heading.{Heading}
 use Rattle.segment.specs.declared.footer.Footer.{Footer}
-use Rattle.segment.specs.Format.{Shape, v3}
+use Rattle.segment.specs.declared.shape.Shape.{Shape}
 use Rattle.segment.specs.Meaning.{Row, rowExtents}
 use Rattle.segment.specs.Tidy.{
   packed,
@@ -30,7 +30,8 @@ use Rattle.segment.specs.Tidy.{
   formOf,
 }
 use Rattle.form_laws.proofs.Structures.{header-long, footer-long, extents-long}
-use Rattle.form_laws.proofs.Shapes.{Shaped, v3-shaped, record-long}
+use Rattle.segment.specs.Shapes.{Shaped}
+use Rattle.form_laws.proofs.Shapes.{record-long}
 
 pub extentBytes-long : (rs : List Row) → length (extentBytes rs) ≡ 16 * extentTotal rs
 unfolding extentBytes extentTotal
@@ -47,7 +48,7 @@ section-divides rs = rw (section-long rs) (omega arith)
 
 module _ (sh : Shape) (k : Shaped sh) where
   pub records-long : (domain : ℕ) (rs : List Row) (digestAt extentsAt : ℕ)
-      → length (recordsBytes sh domain rs digestAt extentsAt) ≡ sh .recordSize * length rs
+      → length (recordsBytes sh domain rs digestAt extentsAt) ≡ sh .«record_size» * length rs
   unfolding recordsBytes
   records-long domain [] digestAt extentsAt = omega arith
   records-long domain (r ∷ rs) digestAt extentsAt =
@@ -57,7 +58,7 @@ module _ (sh : Shape) (k : Shaped sh) where
       ∙ omega (arith, record-long sh k (recordFor domain r digestAt extentsAt), records-long domain rs d e)
 
   module _ (t : Heading) (bloom : List ℕ) (rs : List Row) where
-    pub body-length : length (formBody sh t bloom rs) ≡ 112 + length bloom + sh .recordSize * length rs + length (digestSection rs) + 16 * extentTotal rs
+    pub body-length : length (formBody sh t bloom rs) ≡ 112 + length bloom + sh .«record_size» * length rs + length (digestSection rs) + 16 * extentTotal rs
     unfolding formBody
     body-length =
         let h : Header = formHeader sh t (length bloom) rs in
@@ -69,13 +70,8 @@ module _ (sh : Shape) (k : Shaped sh) where
         ) (omega arith)
 
     pub form-length : length (formOf sh t bloom rs)
-        ≡ 112 + length bloom + sh .recordSize * length rs + length (digestSection rs) + 16 * extentTotal rs + 24
+        ≡ 112 + length bloom + sh .«record_size» * length rs + length (digestSection rs) + 16 * extentTotal rs + 24
     unfolding formOf
     form-length =
         let f : Footer = record { checksum = crc (formBody sh t bloom rs); «seal_snapshot» = t .«seal_snapshot»; «seal_time» = t .«seal_time» } in
         length-append (formBody sh t bloom rs) (packed (footerFields f)) ∙ omega (arith, body-length, footer-long f)
-
--- so it is in version 3
-pub v3-length : (t : Heading) (bloom : List ℕ) (rs : List Row)
-    → length (formOf v3 t bloom rs) ≡ 112 + length bloom + 48 * length rs + length (digestSection rs) + 16 * extentTotal rs + 24
-v3-length = form-length v3 v3-shaped

@@ -12,14 +12,14 @@ use native.Mathlib.Omega.{arith}
 use lib.ListN.{length, length-append}
 use Rattle.numbers.specs.Numbers.{Bytes}
 use Rattle.segment.specs.declared.header.Heading.{Heading}
-use Rattle.segment.specs.Format.{Shape}
+use Rattle.segment.specs.declared.shape.Shape.{Shape}
 use Rattle.lists.specs.Lists.{sortBy}
 use Rattle.segment.specs.Meaning.{Row, rowKey, Meaning}
 use Rattle.segment.specs.Tidy.{digestBytes, digestSection, extentTotal, rowLeq, tidyForm}
 use Rattle.lists.proofs.Each.{each-permuted}
 use Rattle.lists.proofs.Arranged.{sort-permutes}
 use Rattle.form_laws.specs.Form.{Writable, Contents, Form, Tidies}
-use Rattle.form_laws.proofs.Shapes.{Shaped}
+use Rattle.segment.specs.Shapes.{Shaped}
 use Rattle.form_laws.proofs.Sizes.{section-long, form-length}
 use Rattle.form_laws.proofs.Checksum.{form-bytes}
 
@@ -59,7 +59,7 @@ module _ (sh : Shape) (m : Meaning) where
 
   -- so the tidy form's length is told from the rows as they stand
   pub tidy-length : Shaped sh → length (tidyForm sh m)
-      ≡ 112 + length (m .bloom) + sh .recordSize * length (m .records) + length (digestSection (m .records)) + 16 * extentTotal (m .records) + 24
+      ≡ 112 + length (m .bloom) + sh .«record_size» * length (m .records) + length (digestSection (m .records)) + 16 * extentTotal (m .records) + 24
   unfolding tidyForm
   tidy-length k =
       let rs = sortBy rowLeq (m .records) in

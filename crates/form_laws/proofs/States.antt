@@ -10,7 +10,8 @@ use lib.ListN.{length}
 use Rattle.segment.specs.declared.header.Header.{Header}
 use Rattle.segment.specs.declared.record.Record.{Record}
 use Rattle.segment.specs.declared.extent.Extent.{Extent}
-use Rattle.segment.specs.Format.{Shape, extentsOffset, extentCount, extentsIn}
+use Rattle.segment.specs.declared.shape.Shape.{Shape}
+use Rattle.segment.specs.Format.{extentsOffset, extentCount, extentsIn}
 use Rattle.segment.specs.Check.{isGone, sumLengths}
 use Rattle.segment.specs.Meets.{ExtentsMeet, TotalMeets}
 use Rattle.segment.specs.Meaning.{State, gone, live, extentsOfState}
@@ -29,7 +30,7 @@ pub record Says (q : Record) (st : State) (at : ℕ) : Type 0 where
 pub record StateFits (sh : Shape) (q : Record) : Type 0 where
   pub place : q .«extents_offset» .0 < 18446744073709551616
   pub count : q .«extent_count» < 4294967296
-  pub total : q .«total_length» ≤ sh .totalLimit
+  pub total : q .«total_length» ≤ sh .«total_limit»
   pub flags : q .flags ≤ 1
 
 pub state-fits : (sh : Shape) (q : Record) (st : State) (at : ℕ) → Says q st at → StateWritable sh st → at < 18446744073709551616 → StateFits sh q

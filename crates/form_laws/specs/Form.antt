@@ -14,7 +14,8 @@ use lib.ListN.{length}
 use Rattle.numbers.specs.Numbers.{Bytes}
 use Rattle.segment.specs.declared.header.Heading.{Heading}
 use Rattle.segment.specs.declared.extent.Extent.{Extent}
-use Rattle.segment.specs.Format.{Shape, fileLimit, recordLimit, blockEnd}
+use Rattle.segment.specs.declared.shape.Shape.{Shape}
+use Rattle.segment.specs.Format.{fileLimit, recordLimit, blockEnd}
 use Rattle.segment.specs.Keys.{allowsKey}
 use Rattle.segment.specs.Check.{sumLengths}
 use Rattle.segment.specs.Meaning.{State, gone, live, Row, rowKey, Meaning}
@@ -35,7 +36,7 @@ pub record LiveWritable (sh : Shape) (es : List Extent) : Type 0 where
   pub some : 1 ≤ length es
   pub count : length es < 4294967296
   pub each : Each ExtentWritable es
-  pub total : sumLengths es ≤ sh .totalLimit
+  pub total : sumLengths es ≤ sh .«total_limit»
 
 abbrev pub StateWritable : Shape → State → Type 0
 StateWritable sh gone = Unit

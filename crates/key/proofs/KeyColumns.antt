@@ -6,35 +6,44 @@ use mathlib.Core.List.{List}
 use native.Mathlib.Omega.{arith}
 use lib.ListN.{length, getD, take, drop}
 use Rattle.numbers.specs.Numbers.{numAt}
-use Rattle.segment.specs.Format.{v3, entrySize, recordOf}
+use Rattle.segment.specs.declared.shape.Shape.{Shape}
+use Rattle.segment.specs.Format.{entrySize, recordFrom, recordOf}
 use Rattle.segment.specs.declared.entry.Entry.{Entry}
 use Rattle.segment.specs.Check.{placeFrom}
+use Rattle.segment.proofs.Shapes.{shaped-least}
 use Rattle.segment.specs.Write.{entryNo, entryPlace}
 use Rattle.key.specs.declared.Kind.{Kind}
 use Rattle.key.specs.declared.Kind.the-variants.{Records, Entries}
 use Rattle.key.specs.declared.Span.{Span}
-use Rattle.key.specs.Items.{recordSpan, entrySpan, itemHash, itemSpan, itemDigest, itemPlace, Stands, Item}
+use Rattle.key.specs.Items.{recordSpan, entrySpan, itemHash, itemSpan, itemDigest, itemPlace, RecordStands, Stands, Item}
 
 module _ (kind : Kind) (bytes list : List ℕ) (k : ℕ) where
-  pub record-stands : (at : ℕ) → kind ≡ Records at → Item kind bytes list k → at + 48 * k + 48 ≤ length bytes
+  pub record-stands : (first : ℕ) (sh : Shape) → kind ≡ Records first sh → Item kind bytes list k → RecordStands first sh bytes k
   unfolding Stands
-  record-stands at e i = subst (λ (q : Kind). Stands q bytes list k) e (i .stands)
+  record-stands first sh e i = subst (λ (q : Kind). Stands q bytes list k) e (i .stands)
+
+  -- the fields that every version has lie in it
+  pub record-fields : (first : ℕ) (sh : Shape) (at : ℕ) → kind ≡ Records first sh → Item kind bytes list k → at ≡ recordFrom sh first k → at + 48 ≤ length bytes
+  record-fields first sh at e i q =
+      let s = record-stands first sh e i in
+      omega (arith, s .inside, shaped-least sh (s .shaped))
 
   pub entry-stands : kind ≡ Entries → Item kind bytes list k → entrySize * k + entrySize ≤ length list
   unfolding Stands
   entry-stands e i = subst (λ (q : Kind). Stands q bytes list k) e (i .stands)
 
-  pub record-hash : (at : ℕ) {r : ℕ} → kind ≡ Records at → r ≡ numAt 4 bytes (at + 48 * k) → r ≡ itemHash kind bytes list k
+  pub record-hash : (first : ℕ) (sh : Shape) {r at : ℕ} → kind ≡ Records first sh → at ≡ recordFrom sh first k → r ≡ numAt 4 bytes at → r ≡ itemHash kind bytes list k
   unfolding itemHash recordOf
-  record-hash at e h = rw e h
+  record-hash first sh e q h = rw (e, ← q) h
 
   pub entry-hash : {r : Entry} → kind ≡ Entries → r ≡ entryNo list k → r .«hash_id» ≡ itemHash kind bytes list k
   unfolding itemHash
   entry-hash e h = rw (e, h)
 
-  pub record-digest : (at : ℕ) {r : Span} → kind ≡ Records at → r ≡ recordSpan bytes (at + 48 * k) → r ≡ itemSpan kind bytes list k
+  pub record-digest : (first : ℕ) (sh : Shape) {r : Span} {at : ℕ} → kind ≡ Records first sh → at ≡ recordFrom sh first k → r ≡ recordSpan sh bytes at
+      → r ≡ itemSpan kind bytes list k
   unfolding itemSpan
-  record-digest at e h = rw e h
+  record-digest first sh e q h = rw (e, ← q) h
 
   pub entry-digest : {r : Span} {x : Entry} → kind ≡ Entries → x ≡ entryNo list k → r ≡ entrySpan x → r ≡ itemSpan kind bytes list k
   unfolding itemSpan
@@ -53,9 +62,9 @@ module _ (kind : Kind) (bytes list : List ℕ) (k : ℕ) where
 
 -- ---- where it is refused
 
-pub record-place : (kind : Kind) (k first : ℕ) {r : ℕ} → kind ≡ Records first → r ≡ placeFrom v3 first k → r ≡ itemPlace kind k
+pub record-place : (kind : Kind) (k first : ℕ) (sh : Shape) {r : ℕ} → kind ≡ Records first sh → r ≡ placeFrom sh first k → r ≡ itemPlace kind k
 unfolding itemPlace
-record-place kind k first e h = rw e h
+record-place kind k first sh e h = rw e h
 
 pub entry-place : (kind : Kind) (k : ℕ) {r : ℕ} → kind ≡ Entries → r ≡ entryPlace k → r ≡ itemPlace kind k
 unfolding itemPlace

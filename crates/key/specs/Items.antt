@@ -9,7 +9,9 @@
 use Prim.Native.Nat.{ℕ, _+_, _*_, _≤_, _<_}
 use mathlib.Core.List.{List}
 use lib.ListN.{length, getD, take, drop}
-use Rattle.segment.specs.Format.{v3, entrySize, recordOf}
+use Rattle.segment.specs.declared.shape.Shape.{Shape}
+use Rattle.segment.specs.Format.{entrySize, recordFrom, recordOf}
+use Rattle.segment.specs.Shapes.{Shaped}
 use Rattle.segment.specs.declared.entry.Entry.{Entry}
 use Rattle.segment.specs.Keys.{keyOf, keyFrom}
 use Rattle.segment.specs.Check.{placeFrom}
@@ -20,18 +22,18 @@ use Rattle.key.specs.declared.Span.{Span}
 use Rattle.key.specs.declared.head.Head.{Head}
 
 -- where the digest of a record lies, and of an entry
-unfoldable pub recordSpan : List ℕ → ℕ → Span
-recordSpan bytes at = record { start = recordOf v3 bytes at .«digest_offset» .0; size = recordOf v3 bytes at .«digest_length» }
+unfoldable pub recordSpan : Shape → List ℕ → ℕ → Span
+recordSpan sh bytes at = record { start = recordOf sh bytes at .«digest_offset» .0; size = recordOf sh bytes at .«digest_length» }
 
 unfoldable pub entrySpan : Entry → Span
 entrySpan e = record { start = e .«digest_start»; size = e .«digest_length» }
 
 unfoldable pub itemHash : Kind → List ℕ → List ℕ → ℕ → ℕ
-itemHash (Records at) bytes list k = recordOf v3 bytes (at + 48 * k) .«hash_id»
+itemHash (Records first sh) bytes list k = recordOf sh bytes (recordFrom sh first k) .«hash_id»
 itemHash Entries bytes list k = entryNo list k .«hash_id»
 
 unfoldable pub itemSpan : Kind → List ℕ → List ℕ → ℕ → Span
-itemSpan (Records at) bytes list k = recordSpan bytes (at + 48 * k)
+itemSpan (Records first sh) bytes list k = recordSpan sh bytes (recordFrom sh first k)
 itemSpan Entries bytes list k = entrySpan (entryNo list k)
 
 unfoldable pub itemDigest : Kind → List ℕ → List ℕ → ℕ → List ℕ
@@ -45,12 +47,17 @@ itemKey kind bytes list k = keyOf (keyFrom (itemHash kind bytes list k) (itemDig
 
 -- the place of a refusal of an item
 unfoldable pub itemPlace : Kind → ℕ → ℕ
-itemPlace (Records first) k = placeFrom v3 first k
+itemPlace (Records first sh) k = placeFrom sh first k
 itemPlace Entries k = entryPlace k
+
+-- a record stands in the bytes
+pub record RecordStands (first : ℕ) (sh : Shape) (bytes : List ℕ) (k : ℕ) : Type 0 where
+  pub shaped : Shaped sh
+  pub inside : recordFrom sh first k + sh .«record_size» ≤ length bytes
 
 -- the item itself stands in its source
 unfoldable pub Stands : Kind → List ℕ → List ℕ → ℕ → Type 0
-Stands (Records at) bytes list k = at + 48 * k + 48 ≤ length bytes
+Stands (Records first sh) bytes list k = RecordStands first sh bytes k
 Stands Entries bytes list k = entrySize * k + entrySize ≤ length list
 
 -- and so does its digest, in the bytes

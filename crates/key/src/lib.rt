@@ -3,17 +3,19 @@
 ghost use mathlib.Core.Path.{_≡_};
 ghost use Prim.Native.Nat.{_+_, _≤_};
 ghost use lib.ListN.{length};
+ghost use Rattle.segment.specs.Format.{leastRecord};
 ghost use Rattle.key.specs.Items.{recordSpan, entrySpan, Item, itemHash, itemHead, itemSpan, itemDigest, itemPlace};
 use crate::head::Head;
-use field_record::record;
+use field_record::record as fields;
 use segment::entry::Entry;
-use segment::record::Record;
+use segment::record;
+use segment::shape::Shape;
 
 pub mod head;
 
-// The records that begin at a byte of the segment, or the entries of a flat list, nine numbers each.
+// The records of a shape that begin at a byte of the segment, or the entries of a flat list, nine numbers each.
 pub enum Kind {
-    Records(usize),
+    Records(usize, Shape),
     Entries,
 }
 
@@ -31,7 +33,7 @@ fn hash_of(kind: Kind, bytes: &[u8], list: &[u64], k: usize) -> u64
     ensures { λ r. ⌜ r ≡ itemHash kind (now (bytes .entry)) (now (list .entry)) k ⌝ }
 {
     match kind {
-        Kind::Records(at) => record::hash_id(bytes, at + Record::SIZE * k) as u64,
+        Kind::Records(first, sh) => fields::hash_id(bytes, record::begins(sh, first, k)) as u64,
         Kind::Entries => Entry::at(list, k).hash_id,
     }
 }
@@ -46,12 +48,12 @@ pub fn head_of(kind: Kind, bytes: &[u8], list: &[u64], k: usize) -> Head
     }
 }
 
-fn record_span(bytes: &[u8], at: usize) -> Span
-    requires { ⌜ at + 48 ≤ length (now bytes) ⌝ }
-    ensures { λ r. ⌜ r ≡ recordSpan (now (bytes .entry)) at ⌝ }
+fn record_span(sh: Shape, bytes: &[u8], at: usize) -> Span
+    requires { ⌜ at + leastRecord ≤ length (now bytes) ⌝ }
+    ensures { λ r. ⌜ r ≡ recordSpan sh (now (bytes .entry)) at ⌝ }
 {
-    let start = record::digest_offset(bytes, at).0 as usize;
-    let size = record::digest_length(bytes, at) as usize;
+    let start = fields::digest_offset(bytes, at).0 as usize;
+    let size = fields::digest_length(bytes, at) as usize;
     Span { start, size }
 }
 
@@ -69,7 +71,7 @@ pub fn digest_span(kind: Kind, bytes: &[u8], list: &[u64], k: usize) -> Span
     ensures { λ r. ⌜ r ≡ itemSpan kind (now (bytes .entry)) (now (list .entry)) k ⌝ }
 {
     match kind {
-        Kind::Records(at) => record_span(bytes, at + Record::SIZE * k),
+        Kind::Records(first, sh) => record_span(sh, bytes, record::begins(sh, first, k)),
         Kind::Entries => entry_span(Entry::at(list, k)),
     }
 }
@@ -89,7 +91,7 @@ pub fn place_of(kind: Kind, k: usize) -> u64
     ensures { λ r. ⌜ r ≡ itemPlace kind k ⌝ }
 {
     match kind {
-        Kind::Records(first) => segment::record::place_of(first, k),
+        Kind::Records(first, sh) => record::place_of(sh, first, k),
         Kind::Entries => segment::entry::place_of(k),
     }
 }

@@ -17,7 +17,8 @@ use Rattle.answer.specs.Answers.{refusal, foundAnswer}
 use Rattle.lists.proofs.Tests.{tests, was-true, was-false}
 use Rattle.segment.specs.declared.header.Header.{Header}
 use Rattle.segment.specs.declared.record.Record.{Record}
-use Rattle.segment.specs.Format.{v3, headerOf, recordOf, recordNo, recordCount, recordsOffset}
+use Rattle.segment.specs.declared.shape.Shape.{Shape}
+use Rattle.segment.specs.Format.{v3, headerOf, recordOf, recordNo, recordCount, recordsOffset, recordAt}
 use Rattle.table.specs.Table.{goodTable, tableVerdict, allows}
 use Rattle.segment.specs.Keys.{Key, keyOf, allowsKey}
 use Rattle.lists.specs.Lists.{eqList}
@@ -49,42 +50,42 @@ module _ (r : Record) (o : Source) (e : o ≡ sourceOf (r .imported) (r .source)
 -- ---- a segment's records
 
 -- a search has come to k, and no record below it has the key
-pub record Searching (s : List ℕ) (key : Key) (k : ℕ) : Type 0 where
-  pub none : foundOver k (foundNo v3 s (headerOf s) key) ≡ Absent
+pub record Searching (sh : Shape) (s : List ℕ) (key : Key) (k : ℕ) : Type 0 where
+  pub none : foundOver k (foundNo sh s (headerOf s) key) ≡ Absent
 
-pub search-start : (s : List ℕ) (key : Key) → Searching s key 0
-search-start s key = record { none = found-none (foundNo v3 s (headerOf s) key) }
+pub search-start : (sh : Shape) (s : List ℕ) (key : Key) → Searching sh s key 0
+search-start sh s key = record { none = found-none (foundNo sh s (headerOf s) key) }
 
-pub search-done : (s : List ℕ) (key : Key) (k : ℕ) (h : Header) → h ≡ headerOf s → Searching s key k → k ≤ recordCount h → recordCount h ≤ k → Absent ≡ foundIn v3 s (headerOf s) key
+pub search-done : (sh : Shape) (s : List ℕ) (key : Key) (k : ℕ) (h : Header) → h ≡ headerOf s → Searching sh s key k → k ≤ recordCount h → recordCount h ≤ k → Absent ≡ foundIn sh s (headerOf s) key
 unfolding foundIn
-search-done s key k h e v a b =
+search-done sh s key k h e v a b =
     let n : recordCount (headerOf s) ≡ k = ap recordCount (sym e) ∙ omega arith in
-    sym (ap (λ (m : ℕ). foundOver m (foundNo v3 s (headerOf s) key)) n ∙ v .none)
+    sym (ap (λ (m : ℕ). foundOver m (foundNo sh s (headerOf s) key)) n ∙ v .none)
 
-module _ (pairs s : List ℕ) (h : Header) (key : Key) (k : ℕ) (e : h ≡ headerOf s) (b : Bool)
-    (t : b ≡ eqList (itemKey (Records (recordsOffset h)) s pairs k) (keyOf key)) where
+module _ (sh : Shape) (pairs s : List ℕ) (h : Header) (key : Key) (k : ℕ) (e : h ≡ headerOf s) (b : Bool)
+    (t : b ≡ eqList (itemKey (Records (recordsOffset h) sh) s pairs k) (keyOf key)) where
   -- the item's key is the record's
-  tested : b ≡ eqList (keyNo v3 s (headerOf s) k) (keyOf key)
+  tested : b ≡ eqList (keyNo sh s (headerOf s) k) (keyOf key)
   unfolding itemKey itemHash itemDigest itemSpan recordSpan keyNo digestIn recordNo
   tested = rw e at t
 
-  at-record : (r : Record) → r ≡ recordOf v3 s (recordsOffset h + 48 * k) → r ≡ recordNo v3 s (headerOf s) k
+  at-record : (at : ℕ) (r : Record) → at ≡ recordAt sh h k → r ≡ recordOf sh s at → r ≡ recordNo sh s (headerOf s) k
   unfolding recordNo
-  at-record r q = q ∙ ap (λ (x : Header). recordOf v3 s (recordsOffset x + 48 * k)) e
+  at-record at r p q = q ∙ ap (recordOf sh s) (p ∙ ap (λ (x : Header). recordAt sh x k) e)
 
-  pub search-more : Searching s key k → b ≡ false → Searching s key (k + 1)
+  pub search-more : Searching sh s key k → b ≡ false → Searching sh s key (k + 1)
   unfolding foundNo
-  search-more v f = record { none = found-more k (foundNo v3 s (headerOf s) key) (v .none) (rw (sym tested ∙ f)) }
+  search-more v f = record { none = found-more k (foundNo sh s (headerOf s) key) (v .none) (rw (sym tested ∙ f)) }
 
-  pub search-hit : (r : Record) (o : Found) → Searching s key k → b ≡ true → k < recordCount h
-      → r ≡ recordOf v3 s (recordsOffset h + 48 * k) → o ≡ recordFound r → o ≡ foundIn v3 s (headerOf s) key
+  pub search-hit : (at : ℕ) (r : Record) (o : Found) → Searching sh s key k → b ≡ true → k < recordCount h
+      → at ≡ recordAt sh h k → r ≡ recordOf sh s at → o ≡ recordFound r → o ≡ foundIn sh s (headerOf s) key
   unfolding foundIn foundNo
-  search-hit r o v f l q p =
+  search-hit at r o v f l a q p =
       let n : k < recordCount (headerOf s) = rw e at l in
-      let here : foundNo v3 s (headerOf s) key k ≡ recordFound (recordNo v3 s (headerOf s) k) = rw (sym tested ∙ f) in
-      let same : r ≡ recordNo v3 s (headerOf s) k = at-record r q in
+      let here : foundNo sh s (headerOf s) key k ≡ recordFound (recordNo sh s (headerOf s) k) = rw (sym tested ∙ f) in
+      let same : r ≡ recordNo sh s (headerOf s) k = at-record at r a q in
       p ∙ ap recordFound same ∙ sym here
-      ∙ sym (found-first (recordCount (headerOf s)) k (foundNo v3 s (headerOf s) key) n (v .none) (λ z. never-absent (recordNo v3 s (headerOf s) k) (sym here ∙ z)))
+      ∙ sym (found-first (recordCount (headerOf s)) k (foundNo sh s (headerOf s) key) n (v .none) (λ z. never-absent (recordNo sh s (headerOf s) k) (sym here ∙ z)))
 
 -- ---- the whole
 

@@ -3,7 +3,7 @@
 ghost use mathlib.Core.Path.{_≡_};
 ghost use mathlib.Core.Bool.{true};
 ghost use Rattle.answer.specs.Answers.{foundAnswer};
-ghost use Rattle.segment.specs.Format.{v3, headerOf};
+ghost use Rattle.segment.specs.Format.{headerOf};
 ghost use Rattle.segment.specs.Keys.{keyFrom};
 ghost use Rattle.segment.specs.Meaning.{sourceOf};
 ghost use Rattle.table.specs.Table.{goodTable};
@@ -17,7 +17,9 @@ use answer::Verdict;
 use key::Kind;
 use key::head::Head;
 use segment::header::Header;
+use segment::record;
 use segment::record::Record;
+use segment::shape::Shape;
 
 fn source(imported: u8, domain: u32) -> Source
     ensures { λ r. ⌜ r ≡ sourceOf imported domain ⌝ }
@@ -51,9 +53,9 @@ fn found(r: Record) -> Found
 }
 
 // The record of an accepted segment that has the key, if there is one.
-fn find(seg: &[u8], hash: u64, digest: &[u8]) -> Found
-    requires { ⌜ Readable v3 (now seg) (headerOf (now seg)) ⌝ }
-    ensures { λ r. ⌜ r ≡ foundIn v3 (now (seg .entry)) (headerOf (now (seg .entry))) (keyFrom hash (now (digest .entry))) ⌝ }
+fn find(sh: Shape, seg: &[u8], hash: u64, digest: &[u8]) -> Found
+    requires { ⌜ Readable sh (now seg) (headerOf (now seg)) ⌝ }
+    ensures { λ r. ⌜ r ≡ foundIn sh (now (seg .entry)) (headerOf (now (seg .entry))) (keyFrom hash (now (digest .entry))) ⌝ }
 {
     let h = Header::of(seg);
     let first = h.records_offset.0 as usize;
@@ -61,8 +63,8 @@ fn find(seg: &[u8], hash: u64, digest: &[u8]) -> Found
     let head = Head { hash_id: hash };
     let mut k = 0;
     while k < count {
-        if key_equal::key_is(Kind::Records(first), seg, &key::NO_LIST, k, head, digest) {
-            return found(Record::at(seg, first + Record::SIZE * k));
+        if key_equal::key_is(Kind::Records(first, sh), seg, &key::NO_LIST, k, head, digest) {
+            return found(Record::at(sh, seg, record::begins(sh, first, k)));
         }
         k += 1;
     }
@@ -83,7 +85,7 @@ fn look_up_under(pairs: &[u64], seg: &[u8], hash: u64, digest: &[u8]) -> Found
         }
         Verdict::Accepted => {}
     }
-    find(seg, hash, digest)
+    find(Shape::V3, seg, hash, digest)
 }
 
 pub fn look_up(pairs: &[u64], seg: &[u8], hash: u64, digest: &[u8]) -> Found

@@ -15,7 +15,8 @@ use Rattle.answer.specs.declared.Found.{Found}
 use Rattle.answer.specs.declared.Found.the-variants.{Absent, Gone, Present, Refused}
 use Rattle.segment.specs.declared.header.Header.{Header}
 use Rattle.segment.specs.declared.record.Record.{Record}
-use Rattle.segment.specs.Format.{v3, recordNo, recordCount}
+use Rattle.segment.specs.declared.shape.Shape.{Shape}
+use Rattle.segment.specs.Format.{recordNo, recordCount}
 use Rattle.lists.specs.Lists.{eqList}
 use Rattle.segment.specs.Check.{isGone, keyNo}
 use Rattle.segment.specs.Meaning.{sourceOf}
@@ -80,11 +81,11 @@ told-cond : (b : Bool) {f g : Found} → Told f → Told g → Told (cond b f g)
 told-cond true t u = t
 told-cond false t u = u
 
-told-no : (s : List ℕ) (h : Header) (key : Key) (k : ℕ) → Told (foundNo v3 s h key k)
+told-no : (sh : Shape) (s : List ℕ) (h : Header) (key : Key) (k : ℕ) → Told (foundNo sh s h key k)
 unfolding foundNo recordFound
-told-no s h key k =
-    told-cond (eqList (keyNo v3 s h k) (keyOf key))
-    (told-cond (isGone (recordNo v3 s h k)) (gone _ _ _) (present _ _ _ _ _ _))
+told-no sh s h key k =
+    told-cond (eqList (keyNo sh s h k) (keyOf key))
+    (told-cond (isGone (recordNo sh s h k)) (gone _ _ _) (present _ _ _ _ _ _))
     absent
 
 told-over : (n : ℕ) (f : ℕ → Found) → ((k : ℕ) → Told (f k)) → Told (foundOver n f)
@@ -97,6 +98,6 @@ told-refused absent e = let z : _≡_ {A = ℕ} 0 1 = cc in omega arith
 told-refused (gone v d o) e = let z : _≡_ {A = ℕ} 0 1 = cc in omega arith
 told-refused (present v d o t a n) e = let z : _≡_ {A = ℕ} 0 1 = cc in omega arith
 
-pub never-refused : (s : List ℕ) (h : Header) (key : Key) (r : Refusal) → foundIn v3 s h key ≡ Refused r → ⊥
+pub never-refused : (sh : Shape) (s : List ℕ) (h : Header) (key : Key) (r : Refusal) → foundIn sh s h key ≡ Refused r → ⊥
 unfolding foundIn
-never-refused s h key r = told-refused (told-over (recordCount h) (foundNo v3 s h key) (told-no s h key))
+never-refused sh s h key r = told-refused (told-over (recordCount h) (foundNo sh s h key) (told-no sh s h key))

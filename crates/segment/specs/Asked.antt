@@ -8,7 +8,8 @@ use mathlib.Core.List.{List}
 use lib.ListN.{length}
 use Rattle.segment.specs.declared.entry.Entry.{Entry}
 use Rattle.segment.specs.declared.extent.Extent.{Extent}
-use Rattle.segment.specs.Format.{Shape, recordLimit}
+use Rattle.segment.specs.declared.shape.Shape.{Shape}
+use Rattle.segment.specs.Format.{recordLimit}
 use Rattle.table.specs.Table.{allows}
 use Rattle.segment.specs.Keys.{NoKeyTwice}
 use Rattle.segment.specs.Check.{sumLengths}
@@ -37,7 +38,7 @@ pub record PlacesAsked (e : Entry) : Type 0 where
 -- 10, of the entry's extents
 pub record TotalAsked (sh : Shape) (es : List Extent) : Type 0 where
   pub fits : allListedFit es ≡ true
-  pub sum : sumLengths es ≤ sh .totalLimit
+  pub sum : sumLengths es ≤ sh .«total_limit»
 
 -- one entry; 8 is that the table allows its hash id with its digest length
 pub record Asked (sh : Shape) (pairs digests extents : List ℕ) (e : Entry) : Type 0 where

@@ -28,8 +28,8 @@ use Rattle.answer.specs.Answers.{Answer, refusal, checkAnswer}
 use Rattle.segment.specs.declared.header.Header.{Header}
 use Rattle.segment.specs.declared.record.Record.{Record}
 use Rattle.segment.specs.declared.extent.Extent.{Extent}
+use Rattle.segment.specs.declared.shape.Shape.{Shape}
 use Rattle.segment.specs.Format.{
-  Shape,
   v3,
   headerSize,
   extentSize,
@@ -80,7 +80,7 @@ layoutVerdict sh h n =
     then must (eqb (bloomSize h % 8) 0) (refusal Layout 0)
     then must (leb (recordCount h) recordLimit) (refusal Layout 0)
     then must (eqb (recordsOffset h) (headerSize + bloomSize h)) (refusal Layout 0)
-    then must (eqb (digestsOffset h) (recordsOffset h + sh .recordSize * recordCount h)) (refusal Layout 0)
+    then must (eqb (digestsOffset h) (recordsOffset h + sh .«record_size» * recordCount h)) (refusal Layout 0)
     then must (eqb (digestsSize h % 8) 0) (refusal Layout 0)
     then must (eqb (extentsOffset h) (digestsOffset h + digestsSize h)) (refusal Layout 0)
     then must (eqb n (extentsOffset h + extentSize * extentCount h + footerSize)) (refusal Layout 0)
@@ -149,7 +149,7 @@ sumLengths (e ∷ es) = e .length + sumLengths es
 unfoldable pub liveTotal : Shape → List Extent → ℕ → ℕ → Verdict
 liveTotal sh es total p =
     must (allFit es) (refusal Total p)
-    then must (leb (sumLengths es) (sh .totalLimit)) (refusal Total p)
+    then must (leb (sumLengths es) (sh .«total_limit»)) (refusal Total p)
     then must (eqb (sumLengths es) total) (refusal Total p)
 
 -- or gone with total not 0

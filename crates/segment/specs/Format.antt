@@ -1,30 +1,24 @@
 -- Document 01, "The file": sizes, limits, and where each field of the four structures stands. All numbers are little-endian,
 -- unsigned and packed.
---   Shape       what differs between versions: magic, version, a record's size, and its total's place, width and limit
+--   Shape       what differs between versions: magic, version, a record's size, whether its total is wide, and the total's limit
 --   headerOf, recordOf, extentOf, footerOf    the fields of each structure, read from a list of bytes
---   recordAt    where record k begins
+--   recordFrom, recordAt   where record k begins
 -- Assumes nothing: these are definitions.
 use Prim.Native.Nat.{ℕ, zero, suc, _+_, _*_}
+use mathlib.Core.Bool.{false}
 use mathlib.Core.List.{List, [], _∷_}
 use lib.ListN.{length}
 use Rattle.numbers.specs.Numbers.{numAt}
+pub use Rattle.field_record.specs.Sizes.{headerSize, leastRecord, recordBytes, extentSize, footerSize, totalIn}
 use Rattle.field_record.specs.declared.FileOffset.{FileOffset}
 use Rattle.field_record.specs.declared.BlockOffset.{BlockOffset}
+use Rattle.segment.specs.declared.shape.Shape.{Shape}
 use Rattle.segment.specs.declared.header.Header.{Header}
 use Rattle.segment.specs.declared.record.Record.{Record}
 use Rattle.segment.specs.declared.extent.Extent.{Extent}
 use Rattle.segment.specs.declared.footer.Footer.{Footer}
 
 -- ---- sizes and limits
-
-abbrev pub headerSize : ℕ
-headerSize = 112
-
-abbrev pub extentSize : ℕ
-extentSize = 16
-
-abbrev pub footerSize : ℕ
-footerSize = 24
 
 abbrev pub leastFile : ℕ
 leastFile = 136
@@ -48,23 +42,14 @@ blockEnd = 4294967296
 
 -- ---- what differs between versions
 
-pub record Shape : Type 0 where
-  pub magic : ℕ
-  pub version : ℕ
-  pub recordSize : ℕ
-  pub totalAt : ℕ
-  pub totalWidth : ℕ
-  pub totalLimit : ℕ
-
 -- version 3. The magic is the ASCII text ASLIDX03, its first byte lowest
 abbrev pub v3 : Shape
 v3 = record {
   magic = 0x3330_5844_494C_5341;
   version = 3;
-  recordSize = 48;
-  totalAt = 28;
-  totalWidth = 4;
-  totalLimit = 4294967295;
+  «record_size» = leastRecord;
+  «total_wide» = false;
+  «total_limit» = 4294967295;
 }
 
 -- ---- fields
@@ -108,7 +93,7 @@ recordOf sh s at = record {
   «digest_offset» = inFile (numAt 8 s (at + 8));
   «extents_offset» = inFile (numAt 8 s (at + 16));
   «extent_count» = numAt 4 s (at + 24);
-  «total_length» = numAt (sh .totalWidth) s (at + sh .totalAt);
+  «total_length» = totalIn (sh .«total_wide») s at;
   domain = numAt 4 s (at + 32);
   visibility = numAt 1 s (at + 36);
   imported = numAt 1 s (at + 37);
@@ -150,8 +135,12 @@ extentsOffset h = h .«extents_offset» .0
 abbrev pub extentCount : Header → ℕ
 extentCount h = h .«extent_count»
 
+-- where record k begins, of records that begin at a place; and of a segment's
+abbrev pub recordFrom : Shape → ℕ → ℕ → ℕ
+recordFrom sh first k = first + sh .«record_size» * k
+
 abbrev pub recordAt : Shape → Header → ℕ → ℕ
-recordAt sh h k = recordsOffset h + sh .recordSize * k
+recordAt sh h k = recordFrom sh (recordsOffset h) k
 
 -- record k of a segment with the header h
 unfoldable pub recordNo : Shape → List ℕ → Header → ℕ → Record

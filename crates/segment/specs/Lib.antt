@@ -1,4 +1,5 @@
 pub mod Format
+pub mod Shapes
 pub mod Keys
 pub mod Check
 pub mod Meets

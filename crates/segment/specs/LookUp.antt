@@ -17,7 +17,8 @@ use Rattle.answer.specs.Rules.{must, _then_, after}
 use Rattle.answer.specs.Answers.{Answer, refusal, foundAnswer}
 use Rattle.segment.specs.declared.header.Header.{Header}
 use Rattle.segment.specs.declared.record.Record.{Record}
-use Rattle.segment.specs.Format.{Shape, v3, extentSize, headerOf, recordCount, recordNo}
+use Rattle.segment.specs.declared.shape.Shape.{Shape}
+use Rattle.segment.specs.Format.{v3, extentSize, headerOf, recordCount, recordNo}
 use Rattle.table.specs.Table.{tableVerdict}
 use Rattle.segment.specs.Keys.{Key, keyOf, allowsKey}
 use Rattle.lists.specs.Lists.{eqList}

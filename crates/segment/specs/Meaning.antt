@@ -17,7 +17,8 @@ use Rattle.segment.specs.declared.header.Header.{Header}
 use Rattle.segment.specs.declared.header.Heading.{Heading}
 use Rattle.segment.specs.declared.record.Record.{Record}
 use Rattle.segment.specs.declared.extent.Extent.{Extent}
-use Rattle.segment.specs.Format.{Shape, headerSize, footerSize, headerOf, footerOf, recordCount, bloomSize, recordNo, extentsIn}
+use Rattle.segment.specs.declared.shape.Shape.{Shape}
+use Rattle.segment.specs.Format.{headerSize, footerSize, headerOf, footerOf, recordCount, bloomSize, recordNo, extentsIn}
 use Rattle.lists.specs.Lists.{countFrom}
 use Rattle.segment.specs.Keys.{Key, keyOf}
 use Rattle.segment.specs.Check.{isGone, recordKey}

@@ -9,8 +9,8 @@ use lib.ListN.{length, take}
 use Rattle.crc64.specs.Crc.{crc}
 use Rattle.segment.specs.declared.header.Header.{Header}
 use Rattle.segment.specs.declared.record.Record.{Record}
+use Rattle.segment.specs.declared.shape.Shape.{Shape}
 use Rattle.segment.specs.Format.{
-  Shape,
   headerSize,
   extentSize,
   footerSize,
@@ -55,7 +55,7 @@ pub record LayoutMeets (sh : Shape) (s : List ℕ) (h : Header) : Type 0 where
   pub bloom : (bloomSize h ≡ 0 → ⊥) → bloomOffset h ≡ headerSize
   pub few : recordCount h ≤ recordLimit
   pub records : recordsOffset h ≡ headerSize + bloomSize h
-  pub digests : digestsOffset h ≡ recordsOffset h + sh .recordSize * recordCount h
+  pub digests : digestsOffset h ≡ recordsOffset h + sh .«record_size» * recordCount h
   pub extents : extentsOffset h ≡ digestsOffset h + digestsSize h
   pub file : length s ≡ extentsOffset h + extentSize * extentCount h + footerSize
   pub bloomDivides : bloomOffset h % 8 ≡ 0
@@ -104,7 +104,7 @@ pub record SumMeets (sh : Shape) (s : List ℕ) (r : Record) : Type 0 where
   pub fits : (j : ℕ) → j < r .«extent_count»
       → extentOf s (r .«extents_offset» .0 + extentSize * j) .offset .0 + extentOf s (r .«extents_offset» .0 + extentSize * j) .length ≤ blockEnd
   pub sum : sumLengths (extentsIn s r) ≡ r .«total_length»
-  pub total : r .«total_length» ≤ sh .totalLimit
+  pub total : r .«total_length» ≤ sh .«total_limit»
 
 pub record TotalMeets (sh : Shape) (s : List ℕ) (r : Record) : Type 0 where
   pub gone : r .flags ≡ 1 → r .«total_length» ≡ 0

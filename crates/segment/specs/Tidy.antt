@@ -8,7 +8,7 @@
 use Prim.Native.Nat.{ℕ, _+_, _-_, _*_, _%_, max}
 use mathlib.Core.Bool.{Bool, cond}
 use mathlib.Core.List.{List, [], _∷_, _++_}
-use lib.Dec.{leb, eqb}
+use lib.Dec.{leb}
 use lib.ListN.{length, drop, replicate}
 use Rattle.numbers.specs.Numbers.{bytesOf}
 use Rattle.crc64.specs.Crc.{crc}
@@ -25,7 +25,8 @@ use Rattle.segment.specs.declared.header.Heading.{Heading}
 use Rattle.segment.specs.declared.record.Record.{Record}
 use Rattle.segment.specs.declared.extent.Extent.{Extent}
 use Rattle.segment.specs.declared.footer.Footer.{Footer}
-use Rattle.segment.specs.Format.{Shape, v3, headerSize, extentSize, fileLimit, inFile}
+use Rattle.segment.specs.declared.shape.Shape.{Shape}
+use Rattle.segment.specs.Format.{v3, headerSize, extentSize, fileLimit, inFile}
 use Rattle.lists.specs.Lists.{lexLeq, sortBy}
 use Rattle.segment.specs.Check.{sumLengths, bloomPlace, checked}
 use Rattle.segment.specs.Meaning.{State, gone, live, Row, rowKey, rowExtents, Meaning, meaningOf}
@@ -64,18 +65,18 @@ headerFields h =
 unfoldable pub extentFields : Extent → List Field
 extentFields e = u64 (e .block) ∷ u32 (e .offset .0) ∷ u32 (e .length) ∷ []
 
--- a record's total stands at byte 28 in version 3; a version that has it elsewhere has zeros there, and the total at the end
-abbrev pub totalHere : Shape → ℕ → ℕ
-totalHere sh total = cond (eqb (sh .totalAt) 28) total 0
+-- a total of four bytes stands among the other fields; where it is wide there are zeros, and its eight bytes stand behind all else
+abbrev pub totalAmong : Bool → ℕ → ℕ
+totalAmong wide total = cond wide 0 total
 
-abbrev pub totalAfter : Shape → ℕ → List Field
-totalAfter sh total = cond (eqb (sh .totalAt) 28) [] (record { width = sh .totalWidth; value = total } ∷ [])
+abbrev pub totalBehind : Bool → ℕ → List Field
+totalBehind wide total = cond wide (u64 total ∷ []) []
 
 unfoldable pub recordFields : Shape → Record → List Field
 recordFields sh r =
     u32 (r .«hash_id») ∷ u16 (r .«digest_length») ∷ u16 (r .reserved) ∷ u64 (r .«digest_offset» .0) ∷ u64 (r .«extents_offset» .0)
-    ∷ u32 (r .«extent_count») ∷ u32 (totalHere sh (r .«total_length»)) ∷ u32 (r .domain) ∷ u8 (r .visibility) ∷ u8 (r .imported)
-    ∷ u16 (r .«reserved_last») ∷ u32 (r .source) ∷ u32 (r .flags) ∷ totalAfter sh (r .«total_length»)
+    ∷ u32 (r .«extent_count») ∷ u32 (totalAmong (sh .«total_wide») (r .«total_length»)) ∷ u32 (r .domain) ∷ u8 (r .visibility) ∷ u8 (r .imported)
+    ∷ u16 (r .«reserved_last») ∷ u32 (r .source) ∷ u32 (r .flags) ∷ totalBehind (sh .«total_wide») (r .«total_length»)
 
 unfoldable pub footerFields : Footer → List Field
 footerFields f = u64 (f .checksum) ∷ u64 (f .«seal_snapshot») ∷ u64 (f .«seal_time») ∷ []
@@ -159,7 +160,7 @@ largestVisibility (r ∷ rs) = max (r .visibility) (largestVisibility rs)
 abbrev pub headerOver : Shape → Heading → (bloom count digests extents visibility : ℕ) → Header
 headerOver sh t bloom count digests extents visibility =
     let recordsAt = headerSize + bloom in
-    let digestsAt = recordsAt + sh .recordSize * count in
+    let digestsAt = recordsAt + sh .«record_size» * count in
     record {
       magic = sh .magic;
       version = sh .version;

@@ -20,7 +20,8 @@ use Rattle.answer.specs.Answers.{refusal}
 use Rattle.segment.specs.declared.header.Heading.{Heading}
 use Rattle.segment.specs.declared.entry.Entry.{Entry}
 use Rattle.segment.specs.declared.extent.Extent.{Extent}
-use Rattle.segment.specs.Format.{Shape, v3, recordLimit, entrySize, listedSize, inBlock}
+use Rattle.segment.specs.declared.shape.Shape.{Shape}
+use Rattle.segment.specs.Format.{v3, recordLimit, entrySize, listedSize, inBlock}
 use Rattle.table.specs.Table.{tableVerdict, allows}
 use Rattle.segment.specs.Keys.{Key, keyOf, keyFrom, freshKey}
 use Rattle.segment.specs.Check.{extentFits, sumLengths}
@@ -105,7 +106,7 @@ allListedFit (e ∷ es) = listedFits e && allListedFit es
 
 -- 10: a number too wide in an extent, an extent passes 2^32, or the sum passes the limit
 unfoldable pub entryTotal : Shape → List Extent → ℕ → Verdict
-entryTotal sh es p = must (allListedFit es) (refusal Total p) then must (leb (sumLengths es) (sh .totalLimit)) (refusal Total p)
+entryTotal sh es p = must (allListedFit es) (refusal Total p) then must (leb (sumLengths es) (sh .«total_limit»)) (refusal Total p)
 
 -- the place of a refusal of entry k: its number
 abbrev pub entryPlace : ℕ → ℕ

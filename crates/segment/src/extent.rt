@@ -2,7 +2,7 @@
 ghost use mathlib.Core.Path.{_≡_};
 ghost use Prim.Native.Nat.{_+_, _≤_};
 ghost use lib.ListN.{length};
-ghost use Rattle.segment.specs.Format.{extentOf};
+ghost use Rattle.segment.specs.Format.{extentSize, extentOf};
 use field_record::BlockOffset;
 
 pub struct Extent {
@@ -22,7 +22,7 @@ impl Extent {
 
     // The extent that begins at a place.
     pub fn at(seg: &[u8], at: usize) -> Self
-        requires { ⌜ at + 16 ≤ length (now seg) ⌝ }
+        requires { ⌜ at + extentSize ≤ length (now seg) ⌝ }
         ensures { λ r. ⌜ r ≡ extentOf (now (seg .entry)) at ⌝ }
     {
         Self {

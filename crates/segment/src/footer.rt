@@ -2,7 +2,7 @@
 ghost use mathlib.Core.Path.{_≡_};
 ghost use Prim.Native.Nat.{_+_, _≤_};
 ghost use lib.ListN.{length};
-ghost use Rattle.segment.specs.Format.{footerOf};
+ghost use Rattle.segment.specs.Format.{footerSize, footerOf};
 
 pub struct Footer {
     pub checksum: u64,
@@ -18,7 +18,7 @@ impl Footer {
 
     // The footer that begins at a place.
     pub fn at(seg: &[u8], at: usize) -> Self
-        requires { ⌜ at + 24 ≤ length (now seg) ⌝ }
+        requires { ⌜ at + footerSize ≤ length (now seg) ⌝ }
         ensures { λ r. ⌜ r ≡ footerOf (now (seg .entry)) at ⌝ }
     {
         Self {

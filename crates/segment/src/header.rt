@@ -2,7 +2,7 @@
 ghost use mathlib.Core.Path.{_≡_};
 ghost use Prim.Native.Nat.{_≤_};
 ghost use lib.ListN.{length};
-ghost use Rattle.segment.specs.Format.{headerOf};
+ghost use Rattle.segment.specs.Format.{headerSize, headerOf};
 ghost use Rattle.segment.specs.Check.{bloomPlace};
 use field_record::FileOffset;
 
@@ -46,14 +46,9 @@ impl Header {
 
     pub const STATED: u32 = Header::SIZE as u32;
 
-    // ASLIDX03
-    pub const MAGIC: u64 = 0x3330_5844_494C_5341;
-
-    pub const VERSION: u16 = 3;
-
     // The segment's header.
     pub fn of(seg: &[u8]) -> Self
-        requires { ⌜ 112 ≤ length (now seg) ⌝ }
+        requires { ⌜ headerSize ≤ length (now seg) ⌝ }
         ensures { λ r. ⌜ r ≡ headerOf (now (seg .entry)) ⌝ }
     {
         Self {

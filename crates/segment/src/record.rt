@@ -1,9 +1,11 @@
 // A record, field by field as document 01 lists it.
 ghost use mathlib.Core.Path.{_≡_};
-ghost use Prim.Native.Nat.{_+_, _≤_};
+ghost use Prim.Native.Nat.{_+_, _<_, _≤_};
 ghost use lib.ListN.{length};
-ghost use Rattle.segment.specs.Format.{v3, recordOf};
+ghost use Rattle.segment.specs.Format.{recordFrom, recordOf};
+ghost use Rattle.segment.specs.Shapes.{Shaped};
 ghost use Rattle.segment.specs.Check.{placeFrom};
+use crate::shape::Shape;
 use field_record::FileOffset;
 
 pub struct Record {
@@ -23,15 +25,14 @@ pub struct Record {
 }
 
 impl Record {
+    // The fields that every version has; of version 3 they are the whole record.
     pub const SIZE: usize = 48;
 
-    // Its size as wide as the header's numbers.
-    pub const LONG: u64 = Record::SIZE as u64;
-
     // The record that begins at a place.
-    pub fn at(seg: &[u8], at: usize) -> Self
-        requires { ⌜ at + 48 ≤ length (now seg) ⌝ }
-        ensures { λ r. ⌜ r ≡ recordOf v3 (now (seg .entry)) at ⌝ }
+    pub fn at(sh: Shape, seg: &[u8], at: usize) -> Self
+        requires { ⌜ Shaped sh ⌝ }
+        requires { ⌜ at + sh .«record_size» ≤ length (now seg) ⌝ }
+        ensures { λ r. ⌜ r ≡ recordOf sh (now (seg .entry)) at ⌝ }
     {
         Self {
             hash_id: field_record::record::hash_id(seg, at),
@@ -40,7 +41,7 @@ impl Record {
             digest_offset: field_record::record::digest_offset(seg, at),
             extents_offset: field_record::record::extents_offset(seg, at),
             extent_count: field_record::record::extent_count(seg, at),
-            total_length: field_record::record::total_length(seg, at),
+            total_length: field_record::record::total_length(seg, at, sh.total_wide),
             domain: field_record::record::domain(seg, at),
             visibility: field_record::record::visibility(seg, at),
             imported: field_record::record::imported(seg, at),
@@ -51,9 +52,17 @@ impl Record {
     }
 }
 
-// The place of a refusal of record k, of the records that begin at a byte of the segment.
-pub fn place_of(first: usize, k: usize) -> u64
-    ensures { λ r. ⌜ r ≡ placeFrom v3 first k ⌝ }
+// Where record k begins, of the records that begin at a byte of the segment.
+pub fn begins(sh: Shape, first: usize, k: usize) -> usize
+    requires { ⌜ recordFrom sh first k < 18446744073709551616 ⌝ }
+    ensures { λ r. ⌜ r ≡ recordFrom sh first k ⌝ }
+{
+    first + sh.record_size * k
+}
+
+// The place of a refusal of record k of them.
+pub fn place_of(sh: Shape, first: usize, k: usize) -> u64
+    ensures { λ r. ⌜ r ≡ placeFrom sh first k ⌝ }
 {
     k as u64
 }

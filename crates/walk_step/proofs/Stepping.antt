@@ -20,7 +20,7 @@ use Rattle.segment.specs.declared.header.Header.{Header}
 use Rattle.segment.specs.declared.record.Record.{Record}
 use Rattle.segment.specs.declared.step.Step.{Step}
 use Rattle.segment.specs.declared.step.Step.the-variants.{Row, Done, Refused}
-use Rattle.segment.specs.Format.{v3, headerOf, recordOf, recordNo, recordCount, recordsOffset}
+use Rattle.segment.specs.Format.{v3, headerOf, recordOf, recordNo, recordCount, recordAt}
 use Rattle.segment.specs.Check.{checked, checkOf}
 use Rattle.segment.specs.Walk.{stepped, nextPlace, stepAnswer, stepOf}
 use Rattle.check_book.specs.Readable.{Readable}
@@ -81,11 +81,12 @@ module _ (pairs s : List ℕ) (v : Verdict) (checks : checkAnswer v ≡ checkOf 
           let n : recordCount (headerOf s) ≤ k = rw e at l in
           sym (step-done-iff pairs s k .1 (sym verdict ∙ a, n))
 
-      pub gives : (r : Record) → k < recordCount h → r ≡ recordOf v3 s (recordsOffset h + 48 * k) → Row r ≡ stepped pairs s k
+      pub gives : (at : ℕ) (r : Record) → k < recordCount h → at ≡ recordAt v3 h k → r ≡ recordOf v3 s at → Row r ≡ stepped pairs s k
       unfolding recordNo
-      gives r l q =
+      gives at r l p q =
           let n : k < recordCount (headerOf s) = rw e at l in
-          sym (step-row-iff pairs s k r .1 (sym verdict ∙ a, (n, ap (λ (x : Header). recordOf v3 s (recordsOffset x + 48 * k)) (sym e) ∙ sym q)))
+          let here : at ≡ recordAt v3 (headerOf s) k = p ∙ ap (λ (x : Header). recordAt v3 x k) e in
+          sym (step-row-iff pairs s k r .1 (sym verdict ∙ a, (n, ap (recordOf v3 s) (sym here) ∙ sym q)))
 
 -- ---- a step, and the place after it
 

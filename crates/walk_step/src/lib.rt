@@ -5,7 +5,9 @@ ghost use Rattle.segment.specs.Walk.{stepped};
 ghost use Rattle.walk_step.specs.Steps.{turnOf};
 use answer::Verdict;
 use segment::header::Header;
+use segment::record;
 use segment::record::Record;
+use segment::shape::Shape;
 use segment::step::Step;
 
 // What a step answers, and the place after it.
@@ -30,7 +32,8 @@ fn step_at(pairs: &[u64], segment: &[u8], at: usize) -> Step
     if count <= at {
         return Step::Done;
     }
-    Step::Row(Record::at(segment, first + Record::SIZE * at))
+    let begins = record::begins(Shape::V3, first, at);
+    Step::Row(Record::at(Shape::V3, segment, begins))
 }
 
 // A step with the place after it: one on after a record, else the same.

@@ -15,7 +15,7 @@ use Rattle.lists.proofs.Tests.{or-iff}
 use Rattle.answer.proofs.Order.{then-accepted, rows, first-accepted}
 use Rattle.segment.specs.declared.entry.Entry.{Entry}
 use Rattle.segment.specs.declared.extent.Extent.{Extent}
-use Rattle.segment.specs.Format.{Shape}
+use Rattle.segment.specs.declared.shape.Shape.{Shape}
 use Rattle.table.specs.Table.{allows}
 use Rattle.segment.specs.Keys.{freshKey}
 use Rattle.segment.specs.Write.{

@@ -11,7 +11,7 @@ check-slices-spec =
     (tie.spec
     (λ c κs. search needs)
     (λ c. search needs)
-    (λ c. extents-stop _ _ _ _ _ (sym (c .before .before .before .check-extents .ensures) ∙ c .before .x .given .1))
+    (λ c. extents-stop _ _ _ _ _ _ (sym (c .before .before .before .check-extents .ensures) ∙ c .before .x .given .1))
     (λ c. search needs)
     (λ c κs. (search needs, sym (c .before .before .check-extents .ensures) ∙ c .enum-told .given .1))
-    (λ c. extents-pass _ _ _ _ (sym (c .before .before .before .check-extents .ensures) ∙ c .before .enum-told .given .1) (c .check-total .ensures)))
+    (λ c. extents-pass _ _ _ _ _ (sym (c .before .before .before .check-extents .ensures) ∙ c .before .enum-told .given .1) (c .check-total .ensures)))

@@ -11,7 +11,7 @@ check-header-spec =
     (tie.spec
     (λ c κs. search needs)
     (λ c. search needs)
-    (λ c. head-stop _ _ _ (sym (c .before .before .before .check-head .ensures) ∙ c .before .r .given .1))
+    (λ c. head-stop _ _ _ _ (sym (c .before .before .before .check-head .ensures) ∙ c .before .r .given .1))
     (λ c. search needs)
     (λ c κs. search needs)
-    (λ c. head-pass _ _ (sym (c .before .before .before .check-head .ensures) ∙ c .before .enum-told .given .1) (c .check-layout .ensures)))
+    (λ c. head-pass _ _ _ (sym (c .before .before .before .check-head .ensures) ∙ c .before .enum-told .given .1) (c .check-layout .ensures)))

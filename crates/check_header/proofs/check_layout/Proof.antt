@@ -1,6 +1,6 @@
 -- `check_header::check_layout` meets its contract: a row for each return.
 use borrow.Author.Needs.{needs}
-use Rattle.check_header.proofs.HeaderRows.{layout-rows}
+use Rattle.check_header.proofs.HeaderRows.{records-fit, layout-rows}
 use Rattle.check_header.proofs.check_layout.Statement.{statement}
 use Rattle.check_header.proofs.check_layout.Tie as tie
 
@@ -14,7 +14,7 @@ check-layout-spec =
     (λ c. search layout-rows)
     (λ c κs. search needs)
     (λ c. search layout-rows)
-    (λ c. search needs)
+    (λ c. search records-fit)
     (λ c κs. search needs)
     (λ c. search layout-rows)
     (λ c. search layout-rows)

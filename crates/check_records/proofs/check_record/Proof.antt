@@ -11,7 +11,7 @@ check-record-spec =
     (tie.spec
     (λ c κs. search needs)
     (λ c. search needs)
-    (λ c. identity-stop _ _ _ _ _ _ (sym (c .before .before .before .check-identity .ensures) ∙ c .before .x .given .1))
+    (λ c. identity-stop _ _ _ _ _ _ _ (sym (c .before .before .before .check-identity .ensures) ∙ c .before .x .given .1))
     (λ c. search needs)
     (λ c κs. search needs)
-    (λ c. identity-pass _ _ _ _ _ (sym (c .before .before .before .check-identity .ensures) ∙ c .before .enum-told .given .1) (c .check-slices .ensures)))
+    (λ c. identity-pass _ _ _ _ _ _ (sym (c .before .before .before .check-identity .ensures) ∙ c .before .enum-told .given .1) (c .check-slices .ensures)))

@@ -3,21 +3,27 @@ use Prim.Native.Nat.{_≤_, _-_, max}
 use mathlib.Core.Path.{sym, ap, _∙_}
 use borrow.Author.Needs.{needs}
 use native.Mathlib.Omega.{arith}
+use Rattle.check_book.proofs.Readable.{laid-inside, record-inside}
 use Rattle.check_records.proofs.RecordsPass.{Passing, pass-start, pass-refused, pass-more, pass-done}
 use Rattle.check_records.proofs.check_records.Statement.{statement}
 use Rattle.check_records.proofs.check_records.Tie as tie
 
 abbrev Inv-loop : tie.InvT-loop
-Inv-loop pairs seg h count first largest₀ k₀ largest k = (k ≤ count) × Passing pairs seg h k largest
+Inv-loop sh pairs seg h count first largest₀ k₀ largest k = (k ≤ count) × Passing sh pairs seg h k largest
 
 abbrev μ-loop : tie.MeasureT-loop
-μ-loop pairs seg h count first largest₀ k₀ largest k = count - k
+μ-loop sh pairs seg h count first largest₀ k₀ largest k = count - k
+
+at : tie.Need-at-requires Inv-loop μ-loop
+at c κs =
+    let laid = c .before .before .before .before .before .pre in
+    (laid .shaped, omega (arith, record-inside laid (c .before .before .loop .k) (omega arith)))
 
 refused : tie.Need-returns Inv-loop μ-loop
 refused c =
     let said = c .before .before .before in
     let at = said .before .before in
-    pass-refused _ _ _ _ _ _ (at .before .before .loop .inv .1) (at .at .ensures) _ (said .before .place-of .ensures) _ _ (omega arith)
+    pass-refused _ _ _ _ _ _ _ (at .before .before .before .loop .inv .1) _ (at .before .begins .ensures) (at .at .ensures) _ (said .before .place-of .ensures) _ _ (omega arith)
     (sym (said .check-record .ensures) ∙ c .before .x .given .1)
 
 more : tie.Need-loop-again Inv-loop μ-loop
@@ -25,9 +31,9 @@ more c =
     let passed = c .before .before in
     let said = passed .before .before in
     let at = said .before .before in
-    let largest = at .before .before .loop .largest in (
+    let largest = at .before .before .before .loop .largest in (
       omega arith,
-      pass-more _ _ _ _ _ _ (at .before .before .loop .inv .1) (at .at .ensures) _ (said .before .place-of .ensures) _ (sym (said .check-record .ensures) ∙ passed .enum-told .given .1)
+      pass-more _ _ _ _ _ _ _ (at .before .before .before .loop .inv .1) _ (at .before .begins .ensures) (at .at .ensures) _ (said .before .place-of .ensures) _ (sym (said .check-record .ensures) ∙ passed .enum-told .given .1)
           (c .larger .ensures ∙ ap (max largest) (c .before .«counts-with» .ensures)),
     )
 
@@ -37,12 +43,11 @@ check-records-spec =
     (tie.spec
     Inv-loop
     μ-loop
-    (λ c. (omega arith, pass-start _ _ _))
-    (λ c. omega arith)
-    (λ c. omega arith)
-    (λ c κs. omega arith)
+    (λ c. (omega arith, pass-start _ _ _ _))
+    (λ c κs. omega (arith, record-inside (c .before .before .before .before .pre) (c .before .loop .k) (omega arith)))
+    at
     (λ c κs. search needs)
-    (λ c κs. search needs)
+    (λ c κs. laid-inside (c .before .before .before .before .before .before .before .pre))
     (λ c. search needs)
     refused
     (λ c. search needs)
@@ -51,4 +56,4 @@ check-records-spec =
     (λ c. search needs)
     (λ c. search needs)
     more
-    (λ c. pass-done _ _ _ _ _ _ (c .before .loop .inv .1) (omega arith) (omega arith)))
+    (λ c. pass-done _ _ _ _ _ _ _ (c .before .loop .inv .1) (omega arith) (omega arith)))

@@ -12,7 +12,7 @@ check-body-spec =
     (tie.spec
     (λ c κs. omega arith)
     (λ c. search needs)
-    (λ c. checksum-stop _ _ _ _ (sym (c .before .before .before .check-checksum .ensures) ∙ c .before .r .given .1))
+    (λ c. checksum-stop _ _ _ _ _ (sym (c .before .before .before .check-checksum .ensures) ∙ c .before .r .given .1))
     (λ c. search needs)
     (λ c κs. search needs)
-    (λ c. checksum-pass _ _ _ (sym (c .before .before .before .check-checksum .ensures) ∙ c .before .enum-told .given .1) (c .check-contents .ensures)))
+    (λ c. checksum-pass _ _ _ _ (sym (c .before .before .before .check-checksum .ensures) ∙ c .before .enum-told .given .1) (c .check-contents .ensures)))

@@ -14,24 +14,24 @@ asked : tie.Need-keys-climb-requires
 asked c κs =
     let at = c .before .before .before .before in
     let laid = at .before .before .before .before .before .pre in
-    met-items _ _ _ laid _ (records-book _ _ _ _ _ .0 (all-passed _ _ _ (at .v .given .0 .0) (sym (at .v .given .1) ∙ at .before .before .check-records .ensures)))
+    met-items _ _ _ _ laid _ (records-book _ _ _ _ _ .0 (all-passed _ _ _ _ (at .v .given .0 .0) (sym (at .v .given .1) ∙ at .before .before .check-records .ensures)))
 
 climbing : tie.Need-returns-3
 climbing c =
     let at = c .before .before .before .before .before .before in
     let new = sym (keys-book _ _ _ .1 (none-twice _ _ _ _ (sym (c .before .keys-climb .ensures) ∙ c .if2 .taken))) in
-    keys-told _ _ _ (at .v .given .0 .0) (sym (at .v .given .1) ∙ at .before .before .check-records .ensures) _ (omega arith) new
+    keys-told _ _ _ _ (at .v .given .0 .0) (sym (at .v .given .1) ∙ at .before .before .check-records .ensures) _ (omega arith) new
 
 readable : tie.Need-check-keys-requires
 readable c κs =
     let at = c .before .before .before .before .before .before .before in
     let laid = at .before .before .before .before .before .pre in
-    (met-items _ _ _ laid _ (records-book _ _ _ _ _ .0 (all-passed _ _ _ (at .v .given .0 .0) (sym (at .v .given .1) ∙ at .before .before .check-records .ensures))), laid .layout .few)
+    (met-items _ _ _ _ laid _ (records-book _ _ _ _ _ .0 (all-passed _ _ _ _ (at .v .given .0 .0) (sym (at .v .given .1) ∙ at .before .before .check-records .ensures))), laid .layout .few)
 
 told : tie.Need-returns-4
 told c =
     let at = c .before .before .before .before .before .before .before .before in
-    keys-told _ _ _ (at .v .given .0 .0) (sym (at .v .given .1) ∙ at .before .before .check-records .ensures) _ (omega arith) (c .check-keys .ensures)
+    keys-told _ _ _ _ (at .v .given .0 .0) (sym (at .v .given .1) ∙ at .before .before .check-records .ensures) _ (omega arith) (c .check-keys .ensures)
 
 pub check-contents-spec : {M : Type 1} → statement M
 check-contents-spec =
@@ -39,9 +39,9 @@ check-contents-spec =
     (tie.spec
     (λ c κs. search needs)
     (λ c. search needs)
-    (λ c. contents-stop _ _ _ _ (sym (c .before .r .given .1) ∙ c .before .before .before .check-records .ensures))
+    (λ c. contents-stop _ _ _ _ _ (sym (c .before .r .given .1) ∙ c .before .before .before .check-records .ensures))
     (λ c. search needs)
-    (λ c. let at = c .before .before .before in shown-wrong _ _ _ (at .v .given .0 .0) (sym (at .v .given .1) ∙ at .before .before .check-records .ensures) (omega arith))
+    (λ c. let at = c .before .before .before in shown-wrong _ _ _ _ (at .v .given .0 .0) (sym (at .v .given .1) ∙ at .before .before .check-records .ensures) (omega arith))
     (λ c. search needs)
     asked
     climbing

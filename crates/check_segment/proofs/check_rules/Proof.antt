@@ -13,7 +13,7 @@ check-rules-spec =
     (tie.spec
     (λ c κs. search needs)
     (λ c. search needs)
-    (λ c. header-stop _ _ _ _ (sym (c .before .before .before .check-header .ensures) ∙ c .before .r .given .1))
+    (λ c. header-stop _ _ _ _ _ (sym (c .before .before .before .check-header .ensures) ∙ c .before .r .given .1))
     (λ c. search needs)
-    (λ c κs. laid-of _ _ (sym (c .before .before .check-header .ensures) ∙ c .enum-told .given .1) (omega arith))
-    (λ c. header-pass _ _ _ (sym (c .before .before .before .check-header .ensures) ∙ c .before .enum-told .given .1) (c .check-body .ensures)))
+    (λ c κs. laid-of _ (c .before .before .before .before .before .pre .0) _ _ (sym (c .before .before .check-header .ensures) ∙ c .enum-told .given .1) (omega arith))
+    (λ c. header-pass _ _ _ _ (sym (c .before .before .before .check-header .ensures) ∙ c .before .enum-told .given .1) (c .check-body .ensures)))

@@ -12,5 +12,5 @@ place-of-spec =
     (λ c κs. search needs)
     (λ c. search needs)
     (λ c κs. search needs)
-    (λ c. record-place _ _ _ (c .before .before .kind .given .1) (c .place-of .ensures))
+    (λ c. record-place _ _ _ _ (c .before .before .kind .given .1) (c .place-of .ensures))
     (λ c. entry-place _ _ (c .before .enum-told .given .1) (c .place-of2 .ensures)))

@@ -2,36 +2,48 @@
 use Prim.Native.Nat.{_≤_, _-_}
 use borrow.Author.Needs.{needs}
 use native.Mathlib.Omega.{arith}
-use Rattle.segment.specs.Format.{v3}
 use Rattle.check_book.specs.Readable.{Readable}
-use Rattle.check_book.proofs.Readable.{items, read}
+use Rattle.check_book.proofs.Readable.{record-inside, items, read}
 use Rattle.segment.specs.Keys.{keyFrom}
 use Rattle.look_up.proofs.Finding.{Searching, search-start, search-more, search-hit, search-done}
 use Rattle.look_up.proofs.find.Statement.{statement}
 use Rattle.look_up.proofs.find.Tie as tie
 
 abbrev Inv-loop : tie.InvT-loop
-Inv-loop seg hash digest first count head k₀ none k = (k ≤ count) × Searching seg (keyFrom hash digest) k
+Inv-loop sh seg hash digest first count head k₀ none k = (k ≤ count) × Searching sh seg (keyFrom hash digest) k
 
 abbrev μ-loop : tie.MeasureT-loop
-μ-loop seg hash digest first count head k₀ none k = count - k
+μ-loop sh seg hash digest first count head k₀ none k = count - k
 
-known : (c : tie.After-of Inv-loop μ-loop) → Readable v3 (c .before .before .before .args .seg .now) (c .of .result)
+known : (c : tie.After-of Inv-loop μ-loop) → Readable (c .before .before .before .args .sh) (c .before .before .before .args .seg .now) (c .of .result)
 known c = read _ _ _ (c .of .ensures) (c .before .before .before .pre)
+
+begins : tie.Need-begins-requires Inv-loop μ-loop
+begins c κs =
+    let loop = c .before .before .before .before in
+    omega (arith, record-inside (known (loop .before) .laid) (loop .loop .k) (omega arith))
+
+at : tie.Need-at-requires Inv-loop μ-loop
+at c κs =
+    let loop = c .before .before .before .before .before in
+    let laid = known (loop .before) .laid in
+    (laid .shaped, omega (arith, record-inside laid (loop .loop .k) (omega arith)))
 
 hit : tie.Need-returns Inv-loop μ-loop
 hit c =
-    let at = c .before .before .before in
-    let loop = at .before .before .before in
-    search-hit _ _ _ _ _ (loop .before .of .ensures) _ (at .key-is .ensures) _ _ (loop .loop .inv .1) (c .before .before .if1 .taken) (omega arith) (c .before .at .ensures) (c .found .ensures)
+    let begun = c .before .before in
+    let asked = begun .before .before in
+    let loop = asked .before .before .before in
+    search-hit _ _ _ _ _ _ (loop .before .of .ensures) _ (asked .key-is .ensures) _ _ _ (loop .loop .inv .1) (begun .before .if1 .taken) (omega arith)
+    (begun .begins .ensures) (c .before .at .ensures) (c .found .ensures)
 
 more : tie.Need-loop-again Inv-loop μ-loop
 more c =
     let loop = c .before .before .before .before in
-    (omega arith, search-more _ _ _ _ _ (loop .before .of .ensures) _ (c .before .key-is .ensures) (loop .loop .inv .1) (c .if1 .left))
+    (omega arith, search-more _ _ _ _ _ _ (loop .before .of .ensures) _ (c .before .key-is .ensures) (loop .loop .inv .1) (c .if1 .left))
 
 ends : tie.Need-returns-2 Inv-loop μ-loop
-ends c = search-done _ _ _ _ (c .before .before .of .ensures) (c .before .loop .inv .1) (omega arith) (omega arith)
+ends c = search-done _ _ _ _ _ (c .before .before .of .ensures) (c .before .loop .inv .1) (omega arith) (omega arith)
 
 pub find-spec : {M : Type 1} → statement M
 find-spec =
@@ -40,12 +52,11 @@ find-spec =
     Inv-loop
     μ-loop
     (λ c κs. omega (arith, c .before .before .pre .long))
-    (λ c. (omega arith, search-start _ _))
+    (λ c. (omega arith, search-start _ _ _))
     (λ c. search needs)
-    (λ c κs. items _ _ _ (known (c .before .before .before)) .each _ (omega arith))
-    (λ c. let l = known (c .before .before .before .before .before) .laid in omega arith)
-    (λ c. let l = known (c .before .before .before .before .before) .laid in omega arith)
-    (λ c κs. let l = known (c .before .before .before .before .before) .laid in omega arith)
+    (λ c κs. items _ _ _ _ (known (c .before .before .before)) .each _ (omega arith))
+    begins
+    at
     (λ c κs. search needs)
     hit
     (λ c. search needs)

@@ -1,6 +1,8 @@
 -- `look_up::look_up_under` meets its contract: the key, the segment, and then the record.
 use mathlib.Core.Path.{sym, _∙_}
 use borrow.Author.Needs.{needs}
+use Rattle.segment.specs.Format.{v3}
+use Rattle.segment.proofs.Shapes.{v3-shaped}
 use Rattle.check_book.proofs.Readable.{under-readable}
 use Rattle.look_up.proofs.Finding.{unknown-key, segment-stop, segment-pass}
 use Rattle.look_up.proofs.look_up_under.Statement.{statement}
@@ -21,7 +23,7 @@ look-up-under-spec =
     (λ c. search needs)
     (λ c κs.
     let said = c .before .before in
-    under-readable _ _ (said .before .before .before .before .before .before .pre) (sym (said .check-segment .ensures) ∙ c .enum-told .given .1))
+    under-readable v3 v3-shaped _ _ (said .before .before .before .before .before .before .pre) (sym (said .check-segment .ensures) ∙ c .enum-told .given .1))
     (λ c.
     let said = c .before .before .before in
     let at = said .before in

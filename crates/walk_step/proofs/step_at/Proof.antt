@@ -3,7 +3,7 @@ use borrow.Author.Needs.{needs}
 use native.Mathlib.Omega.{arith}
 use Rattle.segment.specs.Format.{v3, headerOf}
 use Rattle.check_book.specs.Readable.{Readable}
-use Rattle.check_book.proofs.Readable.{read}
+use Rattle.check_book.proofs.Readable.{record-inside, read}
 use Rattle.walk_step.proofs.Stepping.{stops, accepted, ends, gives}
 use Rattle.walk_step.proofs.step_at.Statement.{statement}
 use Rattle.walk_step.proofs.step_at.Tie as tie
@@ -16,6 +16,18 @@ known : (c : tie.After-of)
     → let start = c .before .before .before .before .before .before in Readable v3 (start .args .segment .now) (c .of .result)
 known c = read _ _ _ (c .of .ensures) (passed (c .before))
 
+at : tie.Need-at-requires
+at c κs =
+    let read = c .before .before in
+    let laid = known read .laid in
+    (laid .shaped, omega (arith, record-inside laid (read .before .before .before .before .before .before .args .at) (omega arith)))
+
+gives-row : tie.Need-returns-3
+gives-row c =
+    let read = c .before .before .before in
+    let said = read .before .before .before in
+    gives _ _ (said .check .result) (said .check .ensures) _ (read .before .enum-told .given .1) _ (read .of .ensures) _ _ (omega arith) (c .before .begins .ensures) (c .at .ensures)
+
 pub step-at-spec : {M : Type 1} → statement M
 step-at-spec =
     tie.close
@@ -26,7 +38,6 @@ step-at-spec =
     (λ c. search needs)
     (λ c κs. omega (arith, passed c .long))
     (λ c. ends _ _ (c .before .before .before .before .check .result) (c .before .before .before .before .check .ensures) _ (c .before .before .enum-told .given .1) _ (c .before .of .ensures) (omega arith))
-    (λ c. let l = known (c .before) .laid in omega arith)
-    (λ c. let l = known (c .before) .laid in omega arith)
-    (λ c κs. let l = known (c .before) .laid in omega arith)
-    (λ c. gives _ _ (c .before .before .before .before .before .check .result) (c .before .before .before .before .before .check .ensures) _ (c .before .before .before .enum-told .given .1) _ (c .before .before .of .ensures) _ (omega arith) (c .at .ensures)))
+    (λ c κs. omega (arith, record-inside (known (c .before) .laid) (c .before .before .before .before .before .before .before .args .at) (omega arith)))
+    at
+    gives-row)

@@ -1,5 +1,6 @@
 -- `segment::record::Record::at` meets its contract: field by field.
 use Rattle.segment.specs.Format.{recordOf}
+use Rattle.segment.proofs.Shapes.{fields-inside, total-inside}
 use Rattle.segment.proofs.record.Record.at.Statement.{statement}
 use Rattle.segment.proofs.record.Record.at.Tie as tie
 
@@ -39,17 +40,17 @@ pub at-spec : {M : Type 1} → statement M
 at-spec =
     tie.close
     (tie.spec
-    (λ c κs. c .before .pre)
-    (λ c κs. c .before .before .pre)
-    (λ c κs. c .before .before .before .pre)
-    (λ c κs. c .before .before .before .before .pre)
-    (λ c κs. c .before .before .before .before .before .pre)
-    (λ c κs. c .before .before .before .before .before .before .pre)
-    (λ c κs. c .before .before .before .before .before .before .before .pre)
-    (λ c κs. c .before .before .before .before .before .before .before .before .pre)
-    (λ c κs. c .before .before .before .before .before .before .before .before .before .pre)
-    (λ c κs. c .before .before .before .before .before .before .before .before .before .before .pre)
-    (λ c κs. c .before .before .before .before .before .before .before .before .before .before .before .pre)
-    (λ c κs. c .before .before .before .before .before .before .before .before .before .before .before .before .pre)
-    (λ c κs. c .before .before .before .before .before .before .before .before .before .before .before .before .before .pre)
+    (λ c κs. search fields-inside)
+    (λ c κs. search fields-inside)
+    (λ c κs. search fields-inside)
+    (λ c κs. search fields-inside)
+    (λ c κs. search fields-inside)
+    (λ c κs. search fields-inside)
+    (λ c κs. search total-inside)
+    (λ c κs. search fields-inside)
+    (λ c κs. search fields-inside)
+    (λ c κs. search fields-inside)
+    (λ c κs. search fields-inside)
+    (λ c κs. search fields-inside)
+    (λ c κs. search fields-inside)
     returns)
