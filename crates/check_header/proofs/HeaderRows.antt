@@ -5,7 +5,6 @@ use Prim.Native.Nat.{ℕ, _+_, _-_, _*_, _/_, _%_, _≤_, _<_}
 use mathlib.Core.Path.{_≡_, sym, _∙_}
 use mathlib.Core.Bool.{Bool, true, false, not}
 use mathlib.Core.List.{List}
-use native.Mathlib.Nat.{mul-le-mul}
 use native.Mathlib.Omega.{arith}
 use borrow.Author.Tests.{eq-eqb, ne-eqb, eqb-true, eqb-false}
 use lib.Dec.{eqb}
@@ -20,8 +19,6 @@ use Rattle.segment.specs.declared.header.Header.{Header}
 use Rattle.segment.specs.declared.shape.Shape.{Shape}
 use Rattle.segment.specs.Format.{recordCount, recordsOffset, bloomOffset, bloomSize, digestsOffset, digestsSize, extentsOffset, extentCount, footerOf}
 use Rattle.segment.specs.Check.{headVerdict, bloomPlace, layoutVerdict, checksumVerdict}
-use Rattle.segment.specs.Shapes.{Shaped}
-use Rattle.segment.proofs.Shapes.{shaped-most}
 use Rattle.segment.specs.Meets.{HeaderMeets}
 use Rattle.check_book.proofs.TablesHeader.{magic-broken, version-broken, header-book, header-broken}
 
@@ -89,10 +86,6 @@ module _ (n extents count : ℕ) where
   counted l m h = same-test ((n - 24 - extents) / 16) count n (extents + 16 * count + 24) (λ e. omega arith) (λ e. omega arith)
 
 -- ---- 5
-
--- so many records of a shape have a number of bytes
-pub records-fit : (sh : Shape) → Shaped sh → (n : ℕ) → n ≤ 65536 → sh .«record_size» * n < 18446744073709551616
-records-fit sh w n l = omega (arith, mul-le-mul (shaped-most sh w) l)
 
 module _ (sh : Shape) (h : Header) (n : ℕ) (place : ℕ) (p : place ≡ bloomPlace (bloomSize h)) where
   pub layout-bloom : (bloomOffset h ≡ place → ⊥) → Refused (refusal Layout 0) ≡ layoutVerdict sh h n

@@ -5,9 +5,9 @@ ghost use lib.ListN.{length};
 ghost use Rattle.numbers.specs.Numbers.{numAt};
 ghost use Rattle.field_record.specs.Sizes.{footerSize};
 
-const SEAL_SNAPSHOT: usize = 8;
+pub const SEAL_SNAPSHOT: usize = 8;
 
-const SEAL_TIME: usize = 16;
+pub const SEAL_TIME: usize = 16;
 
 pub fn checksum(seg: &[u8], at: usize) -> u64
     requires { ⌜ at + footerSize ≤ length (now seg) ⌝ }

@@ -6,9 +6,9 @@ ghost use Rattle.numbers.specs.Numbers.{numAt};
 ghost use Rattle.field_record.specs.Sizes.{extentSize};
 use crate::BlockOffset;
 
-const OFFSET: usize = 8;
+pub const OFFSET: usize = 8;
 
-const LENGTH: usize = 12;
+pub const LENGTH: usize = 12;
 
 pub fn block(seg: &[u8], at: usize) -> u64
     requires { ⌜ at + extentSize ≤ length (now seg) ⌝ }

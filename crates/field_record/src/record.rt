@@ -6,31 +6,31 @@ ghost use Rattle.numbers.specs.Numbers.{numAt};
 ghost use Rattle.field_record.specs.Sizes.{leastRecord, recordBytes, totalIn};
 use crate::FileOffset;
 
-const DIGEST_LENGTH: usize = 4;
+pub const DIGEST_LENGTH: usize = 4;
 
-const RESERVED: usize = 6;
+pub const RESERVED: usize = 6;
 
-const DIGEST_OFFSET: usize = 8;
+pub const DIGEST_OFFSET: usize = 8;
 
-const EXTENTS_OFFSET: usize = 16;
+pub const EXTENTS_OFFSET: usize = 16;
 
-const EXTENT_COUNT: usize = 24;
+pub const EXTENT_COUNT: usize = 24;
 
-const TOTAL_LENGTH: usize = 28;
+pub const TOTAL_LENGTH: usize = 28;
 
-const DOMAIN: usize = 32;
+pub const DOMAIN: usize = 32;
 
-const VISIBILITY: usize = 36;
+pub const VISIBILITY: usize = 36;
 
-const IMPORTED: usize = 37;
+pub const IMPORTED: usize = 37;
 
-const RESERVED_LAST: usize = 38;
+pub const RESERVED_LAST: usize = 38;
 
-const SOURCE: usize = 40;
+pub const SOURCE: usize = 40;
 
-const FLAGS: usize = 44;
+pub const FLAGS: usize = 44;
 
-const WIDE_TOTAL: usize = 48;
+pub const WIDE_TOTAL: usize = 48;
 
 pub fn hash_id(seg: &[u8], at: usize) -> u32
     requires { ⌜ at + leastRecord ≤ length (now seg) ⌝ }

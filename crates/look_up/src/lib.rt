@@ -63,7 +63,14 @@ fn find(sh: Shape, seg: &[u8], hash: u64, digest: &[u8]) -> Found
     let head = Head { hash_id: hash };
     let mut k = 0;
     while k < count {
-        if key_equal::key_is(Kind::Records(first, sh), seg, &key::NO_LIST, k, head, digest) {
+        if key_equal::key_is(
+            Kind::Records(first, sh),
+            seg,
+            &key::NO_LIST,
+            k,
+            head,
+            digest,
+        ) {
             return found(Record::at(sh, seg, record::begins(sh, first, k)));
         }
         k += 1;

@@ -1,9 +1,10 @@
 -- The fields of the header and of a record in the groups in which they are put; group after group they are all of them.
 -- Assumes nothing: these are definitions.
+use mathlib.Core.Bool.{Bool}
 use mathlib.Core.List.{List, [], _∷_, _++_}
 use Rattle.segment.specs.declared.header.Header.{Header}
 use Rattle.segment.specs.declared.record.Record.{Record}
-use Rattle.segment.specs.Tidy.{Field, u8, u16, u32, u64}
+use Rattle.segment.specs.Tidy.{Field, u8, u16, u32, u64, totalAmong}
 
 -- ---- of the header
 
@@ -25,16 +26,20 @@ extentsOwnerFields h = u64 (h .«extents_offset» .0) ∷ u64 (h .«extent_count
 unfoldable pub lastFields : Header → List Field
 lastFields h = u8 (h .federation) ∷ u16 (h .reserved) ∷ u64 (h .flags) ∷ []
 
--- ---- of a record of version 3
+-- ---- of a record
 
 unfoldable pub identityFields : Record → List Field
 identityFields r = u32 (r .«hash_id») ∷ u16 (r .«digest_length») ∷ u16 (r .reserved) ∷ u64 (r .«digest_offset» .0) ∷ []
 
-unfoldable pub slicesFields : Record → List Field
-slicesFields r = u64 (r .«extents_offset» .0) ∷ u32 (r .«extent_count») ∷ u32 (r .«total_length») ∷ []
+unfoldable pub slicesFields : Bool → Record → List Field
+slicesFields wide r = u64 (r .«extents_offset» .0) ∷ u32 (r .«extent_count») ∷ u32 (totalAmong wide (r .«total_length»)) ∷ []
 
 unfoldable pub ownerFields : Record → List Field
 ownerFields r = u32 (r .domain) ∷ u8 (r .visibility) ∷ u8 (r .imported) ∷ u16 (r .«reserved_last») ∷ []
 
 unfoldable pub markFields : Record → List Field
 markFields r = u32 (r .source) ∷ u32 (r .flags) ∷ []
+
+-- the fields that every version has
+unfoldable pub commonFields : Bool → Record → List Field
+commonFields wide r = ((identityFields r ++ slicesFields wide r) ++ ownerFields r) ++ markFields r

@@ -3,9 +3,10 @@
 ghost use mathlib.Core.Path.{_≡_};
 ghost use Prim.Native.Nat.{_+_, _≤_};
 ghost use lib.ListN.{length};
-ghost use Rattle.numbers.specs.Numbers.{put};
-ghost use Rattle.segment.specs.Format.{v3};
-ghost use Rattle.segment.specs.Tidy.{packed, headerFields, recordFields, extentFields, footerFields};
+ghost use Rattle.numbers.specs.Numbers.{bytesOf, put};
+ghost use Rattle.segment.specs.Format.{headerSize, leastRecord, recordBytes, extentSize, footerSize};
+ghost use Rattle.segment.specs.Shapes.{Shaped};
+ghost use Rattle.segment.specs.Tidy.{packed, headerFields, totalAmong, totalBehind, recordFields, extentFields, footerFields};
 ghost use Rattle.put_fields.specs.Groups.{
   kindFields,
   countFields,
@@ -17,15 +18,20 @@ ghost use Rattle.put_fields.specs.Groups.{
   slicesFields,
   ownerFields,
   markFields,
+  commonFields,
 };
+use field_frame::footer;
 use field_frame::header;
+use field_record::extent;
+use field_record::record;
 use segment::extent::Extent;
 use segment::footer::Footer;
 use segment::header::Header;
 use segment::record::Record;
+use segment::shape::Shape;
 
 fn put_kind(h: Header, out: &mut [u8])
-    requires { ⌜ 112 ≤ length (now out) ⌝ }
+    requires { ⌜ headerSize ≤ length (now out) ⌝ }
     ensures { λ _. ⌜ now (out .exit) ≡ put (now (out .entry)) 0 (packed (kindFields h)) ⌝ }
 {
     numbers::put_u64(out, header::MAGIC, h.magic);
@@ -35,7 +41,7 @@ fn put_kind(h: Header, out: &mut [u8])
 }
 
 fn put_counts(h: Header, out: &mut [u8])
-    requires { ⌜ 112 ≤ length (now out) ⌝ }
+    requires { ⌜ headerSize ≤ length (now out) ⌝ }
     ensures { λ _. ⌜ now (out .exit) ≡ put (now (out .entry)) 16 (packed (countFields h)) ⌝ }
 {
     numbers::put_u64(out, header::SNAPSHOT_MIN, h.snapshot_min);
@@ -45,7 +51,7 @@ fn put_counts(h: Header, out: &mut [u8])
 }
 
 fn put_front(h: Header, out: &mut [u8])
-    requires { ⌜ 112 ≤ length (now out) ⌝ }
+    requires { ⌜ headerSize ≤ length (now out) ⌝ }
     ensures { λ _. ⌜ now (out .exit) ≡ put (now (out .entry)) 0 (packed (frontFields h)) ⌝ }
 {
     put_kind(h, out);
@@ -53,7 +59,7 @@ fn put_front(h: Header, out: &mut [u8])
 }
 
 fn put_sections(h: Header, out: &mut [u8])
-    requires { ⌜ 112 ≤ length (now out) ⌝ }
+    requires { ⌜ headerSize ≤ length (now out) ⌝ }
     ensures { λ _. ⌜ now (out .exit) ≡ put (now (out .entry)) 48 (packed (sectionFields h)) ⌝ }
 {
     numbers::put_u64(out, header::BLOOM_OFFSET, h.bloom_offset.0);
@@ -64,7 +70,7 @@ fn put_sections(h: Header, out: &mut [u8])
 
 // Where the extents stand and how many they are; then whose the segment is: domain and visibility.
 fn put_extents_and_owner(h: Header, out: &mut [u8])
-    requires { ⌜ 112 ≤ length (now out) ⌝ }
+    requires { ⌜ headerSize ≤ length (now out) ⌝ }
     ensures { λ _. ⌜ now (out .exit) ≡ put (now (out .entry)) 80 (packed (extentsOwnerFields h)) ⌝ }
 {
     numbers::put_u64(out, header::EXTENTS_OFFSET, h.extents_offset.0);
@@ -74,7 +80,7 @@ fn put_extents_and_owner(h: Header, out: &mut [u8])
 }
 
 fn put_last(h: Header, out: &mut [u8])
-    requires { ⌜ 112 ≤ length (now out) ⌝ }
+    requires { ⌜ headerSize ≤ length (now out) ⌝ }
     ensures { λ _. ⌜ now (out .exit) ≡ put (now (out .entry)) 101 (packed (lastFields h)) ⌝ }
 {
     numbers::put_u8(out, header::FEDERATION, h.federation);
@@ -84,7 +90,7 @@ fn put_last(h: Header, out: &mut [u8])
 
 // The header, at the front.
 pub fn put_header(h: Header, out: &mut [u8])
-    requires { ⌜ 112 ≤ length (now out) ⌝ }
+    requires { ⌜ headerSize ≤ length (now out) ⌝ }
     ensures { λ _. ⌜ now (out .exit) ≡ put (now (out .entry)) 0 (packed (headerFields h)) ⌝ }
 {
     put_front(h, out);
@@ -94,83 +100,97 @@ pub fn put_header(h: Header, out: &mut [u8])
 }
 
 fn put_identity(r: Record, at: usize, out: &mut [u8])
-    requires { ⌜ at + 16 ≤ length (now out) ⌝ }
+    requires { ⌜ at + leastRecord ≤ length (now out) ⌝ }
     ensures { λ _. ⌜ now (out .exit) ≡ put (now (out .entry)) at (packed (identityFields r)) ⌝ }
 {
     numbers::put_u32(out, at, r.hash_id);
-    let p1 = at + 4;
-    numbers::put_u16(out, p1, r.digest_length);
-    let p2 = p1 + 2;
-    numbers::put_u16(out, p2, r.reserved);
-    let p3 = p2 + 2;
-    numbers::put_u64(out, p3, r.digest_offset.0);
+    numbers::put_u16(out, at + record::DIGEST_LENGTH, r.digest_length);
+    numbers::put_u16(out, at + record::RESERVED, r.reserved);
+    numbers::put_u64(out, at + record::DIGEST_OFFSET, r.digest_offset.0);
 }
 
-// A total has four bytes here; of one that fits, the remainder is the whole.
-fn put_slices(r: Record, at: usize, out: &mut [u8])
-    requires { ⌜ at + 16 ≤ length (now out) ⌝ }
-    ensures { λ _. ⌜ now (out .exit) ≡ put (now (out .entry)) at (packed (slicesFields r)) ⌝ }
+// What stands where a total of four bytes has its place: of one that fits, the remainder is the whole.
+fn total_among(wide: bool, total: u64) -> u32
+    ensures { λ r. ⌜ bytesOf 4 r ≡ bytesOf 4 (totalAmong wide total) ⌝ }
 {
-    numbers::put_u64(out, at, r.extents_offset.0);
-    let p1 = at + 8;
-    numbers::put_u32(out, p1, r.extent_count);
-    let p2 = p1 + 4;
-    numbers::put_u32(out, p2, (r.total_length % 4294967296) as u32);
+    if wide {
+        return 0;
+    }
+    (total % 4294967296) as u32
+}
+
+fn put_slices(wide: bool, r: Record, at: usize, out: &mut [u8])
+    requires { ⌜ at + leastRecord ≤ length (now out) ⌝ }
+    ensures { λ _. ⌜ now (out .exit) ≡ put (now (out .entry)) (at + 16) (packed (slicesFields wide r)) ⌝ }
+{
+    numbers::put_u64(out, at + record::EXTENTS_OFFSET, r.extents_offset.0);
+    numbers::put_u32(out, at + record::EXTENT_COUNT, r.extent_count);
+    let total = total_among(wide, r.total_length);
+    numbers::put_u32(out, at + record::TOTAL_LENGTH, total);
 }
 
 fn put_owner(r: Record, at: usize, out: &mut [u8])
-    requires { ⌜ at + 8 ≤ length (now out) ⌝ }
-    ensures { λ _. ⌜ now (out .exit) ≡ put (now (out .entry)) at (packed (ownerFields r)) ⌝ }
+    requires { ⌜ at + leastRecord ≤ length (now out) ⌝ }
+    ensures { λ _. ⌜ now (out .exit) ≡ put (now (out .entry)) (at + 32) (packed (ownerFields r)) ⌝ }
 {
-    numbers::put_u32(out, at, r.domain);
-    let p1 = at + 4;
-    numbers::put_u8(out, p1, r.visibility);
-    let p2 = p1 + 1;
-    numbers::put_u8(out, p2, r.imported);
-    let p3 = p2 + 1;
-    numbers::put_u16(out, p3, r.reserved_last);
+    numbers::put_u32(out, at + record::DOMAIN, r.domain);
+    numbers::put_u8(out, at + record::VISIBILITY, r.visibility);
+    numbers::put_u8(out, at + record::IMPORTED, r.imported);
+    numbers::put_u16(out, at + record::RESERVED_LAST, r.reserved_last);
 }
 
 fn put_marks(r: Record, at: usize, out: &mut [u8])
-    requires { ⌜ at + 8 ≤ length (now out) ⌝ }
-    ensures { λ _. ⌜ now (out .exit) ≡ put (now (out .entry)) at (packed (markFields r)) ⌝ }
+    requires { ⌜ at + leastRecord ≤ length (now out) ⌝ }
+    ensures { λ _. ⌜ now (out .exit) ≡ put (now (out .entry)) (at + 40) (packed (markFields r)) ⌝ }
 {
-    numbers::put_u32(out, at, r.source);
-    let p1 = at + 4;
-    numbers::put_u32(out, p1, r.flags);
+    numbers::put_u32(out, at + record::SOURCE, r.source);
+    numbers::put_u32(out, at + record::FLAGS, r.flags);
 }
 
-pub fn put_record(r: Record, at: usize, out: &mut [u8])
-    requires { ⌜ at + 48 ≤ length (now out) ⌝ }
-    ensures { λ _. ⌜ now (out .exit) ≡ put (now (out .entry)) at (packed (recordFields v3 r)) ⌝ }
+// The fields that every version has.
+fn put_common(wide: bool, r: Record, at: usize, out: &mut [u8])
+    requires { ⌜ at + leastRecord ≤ length (now out) ⌝ }
+    ensures { λ _. ⌜ now (out .exit) ≡ put (now (out .entry)) at (packed (commonFields wide r)) ⌝ }
 {
     put_identity(r, at, out);
-    let p1 = at + 16;
-    put_slices(r, p1, out);
-    let p2 = p1 + 16;
-    put_owner(r, p2, out);
-    let p3 = p2 + 8;
-    put_marks(r, p3, out);
+    put_slices(wide, r, at, out);
+    put_owner(r, at, out);
+    put_marks(r, at, out);
+}
+
+// What stands behind them: a wide total, or nothing.
+fn put_behind(wide: bool, total: u64, at: usize, out: &mut [u8])
+    requires { ⌜ at + recordBytes wide ≤ length (now out) ⌝ }
+    ensures { λ _. ⌜ now (out .exit) ≡ put (now (out .entry)) (at + leastRecord) (packed (totalBehind wide total)) ⌝ }
+{
+    if wide {
+        numbers::put_u64(out, at + record::WIDE_TOTAL, total);
+    }
+}
+
+pub fn put_record(sh: Shape, r: Record, at: usize, out: &mut [u8])
+    requires { ⌜ Shaped sh ⌝ }
+    requires { ⌜ at + sh .«record_size» ≤ length (now out) ⌝ }
+    ensures { λ _. ⌜ now (out .exit) ≡ put (now (out .entry)) at (packed (recordFields sh r)) ⌝ }
+{
+    put_common(sh.total_wide, r, at, out);
+    put_behind(sh.total_wide, r.total_length, at, out);
 }
 
 pub fn put_extent(e: Extent, at: usize, out: &mut [u8])
-    requires { ⌜ at + 16 ≤ length (now out) ⌝ }
+    requires { ⌜ at + extentSize ≤ length (now out) ⌝ }
     ensures { λ _. ⌜ now (out .exit) ≡ put (now (out .entry)) at (packed (extentFields e)) ⌝ }
 {
     numbers::put_u64(out, at, e.block);
-    let p1 = at + 8;
-    numbers::put_u32(out, p1, e.offset.0);
-    let p2 = p1 + 4;
-    numbers::put_u32(out, p2, e.length);
+    numbers::put_u32(out, at + extent::OFFSET, e.offset.0);
+    numbers::put_u32(out, at + extent::LENGTH, e.length);
 }
 
 pub fn put_footer(f: Footer, at: usize, out: &mut [u8])
-    requires { ⌜ at + 24 ≤ length (now out) ⌝ }
+    requires { ⌜ at + footerSize ≤ length (now out) ⌝ }
     ensures { λ _. ⌜ now (out .exit) ≡ put (now (out .entry)) at (packed (footerFields f)) ⌝ }
 {
     numbers::put_u64(out, at, f.checksum);
-    let p1 = at + 8;
-    numbers::put_u64(out, p1, f.seal_snapshot);
-    let p2 = p1 + 8;
-    numbers::put_u64(out, p2, f.seal_time);
+    numbers::put_u64(out, at + footer::SEAL_SNAPSHOT, f.seal_snapshot);
+    numbers::put_u64(out, at + footer::SEAL_TIME, f.seal_time);
 }

@@ -5,12 +5,12 @@ use mathlib.Core.Path.{_≡_, sym, subst, _∙_}
 use mathlib.Core.List.{List}
 use native.Mathlib.Omega.{arith}
 use lib.ListN.{length, getD}
-use Rattle.numbers.specs.Numbers.{numAt}
 use Rattle.numbers.proofs.NumberLaws.{bytesOf-mod}
 use Rattle.segment.specs.declared.record.Record.{Record}
 use Rattle.segment.specs.declared.extent.Extent.{Extent}
 use Rattle.segment.specs.declared.entry.Entry.{Entry}
-use Rattle.segment.specs.Format.{v3, inBlock, recordOf, extentOf}
+use Rattle.segment.specs.declared.shape.Shape.{Shape}
+use Rattle.segment.specs.Format.{inBlock, recordFrom, totalIn, recordOf, extentOf}
 use Rattle.segment.specs.Check.{sumLengths}
 use Rattle.segment.specs.Tidy.{packed, extentFields}
 use Rattle.segment.specs.Write.{entryNo, listedExtent, extentsFrom}
@@ -22,9 +22,10 @@ use Rattle.put_item.specs.Lines.{recordEntry, itemEntry, itemExtent, Hel
 -- ---- an item's numbers
 
 module _ (kind : Kind) (bytes list : List ℕ) (k : ℕ) where
-  pub record-entry : (at : ℕ) (r : Record) (e : Entry) → kind ≡ Records at → r ≡ recordOf v3 bytes (at + 48 * k) → e ≡ recordEntry r → e ≡ itemEntry kind bytes list k
+  pub record-entry : (first : ℕ) (sh : Shape) (at : ℕ) (r : Record) (e : Entry) → kind ≡ Records first sh → at ≡ recordFrom sh first k → r ≡ recordOf sh bytes at
+      → e ≡ recordEntry r → e ≡ itemEntry kind bytes list k
   unfolding itemEntry
-  record-entry at r e q h i = rw (q, i, h)
+  record-entry first sh at r e q b h i = rw (q, i, h, b)
 
   pub entry-entry : (e : Entry) → kind ≡ Entries → e ≡ entryNo list k → e ≡ itemEntry kind bytes list k
   unfolding itemEntry
@@ -40,18 +41,18 @@ unfolding packed extentFields listedExtent
 cut-extent xs j = rw (bytesOf-mod 4 (getD xs (3 * j + 1) 0), bytesOf-mod 4 (getD xs (3 * j + 2) 0))
 
 module _ (kind : Kind) (bytes extents : List ℕ) (first : ℕ) where
-  pub record-held : (at n : ℕ) → kind ≡ Records at → Held kind bytes extents first n → first + 16 * n ≤ length bytes
+  pub record-held : (from : ℕ) (sh : Shape) (n : ℕ) → kind ≡ Records from sh → Held kind bytes extents first n → first + 16 * n ≤ length bytes
   unfolding Held
-  record-held at n e h = subst (λ (q : Kind). Held q bytes extents first n) e h
+  record-held from sh n e h = subst (λ (q : Kind). Held q bytes extents first n) e h
 
   pub entry-held : (n : ℕ) → kind ≡ Entries → Held kind bytes extents first n → 3 * (first + n) ≤ length extents
   unfolding Held
   entry-held n e h = subst (λ (q : Kind). Held q bytes extents first n) e h
 
-  pub record-extent : (j at : ℕ) (r : Extent) → kind ≡ Records at → r ≡ extentOf bytes (first + 16 * j)
+  pub record-extent : (j from : ℕ) (sh : Shape) (r : Extent) → kind ≡ Records from sh → r ≡ extentOf bytes (first + 16 * j)
       → packed (extentFields r) ≡ packed (extentFields (itemExtent kind bytes extents first j))
   unfolding itemExtent
-  record-extent j at r e h = rw (e, h)
+  record-extent j from sh r e h = rw (e, h)
 
   pub entry-extent : (j : ℕ) (r : Extent) → kind ≡ Entries → packed (extentFields r) ≡ packed (extentFields (listedExtent extents (first + j)))
       → packed (extentFields r) ≡ packed (extentFields (itemExtent kind bytes extents first j))
@@ -89,9 +90,10 @@ module _ (xs : List ℕ) (first count j sum : ℕ) (a : Adding xs first count j 
       sym (a .same ∙ rw e (omega arith))
 
 module _ (kind : Kind) (bytes list extents : List ℕ) (k : ℕ) where
-  pub record-total : (at r : ℕ) → kind ≡ Records at → r ≡ numAt 4 bytes (at + 48 * k + 28) → r ≡ itemTotal kind bytes list extents k
+  pub record-total : (first : ℕ) (sh : Shape) (at r : ℕ) → kind ≡ Records first sh → at ≡ recordFrom sh first k → r ≡ totalIn (sh .«total_wide») bytes at
+      → r ≡ itemTotal kind bytes list extents k
   unfolding itemTotal recordOf
-  record-total at r e h = rw (e, h)
+  record-total first sh at r e b h = rw (e, h, b)
 
   -- an entry's numbers by value
   module _ (x : Entry) (q : kind ≡ Entries) (h : x ≡ entryNo list k) where

@@ -31,17 +31,17 @@ use Rattle.put_item.specs.Lines.{recordEntry, itemEntry, itemExtents, it
 
 span-starts : (kind : Kind) (bytes list : List ℕ) (k : ℕ) → itemSpan kind bytes list k .start ≡ itemEntry kind bytes list k .«digest_start»
 unfolding itemSpan recordSpan entrySpan itemEntry recordEntry entryNo
-span-starts (Records at) bytes list k = refl
+span-starts (Records from sh) bytes list k = refl
 span-starts Entries bytes list k = refl
 
 span-size : (kind : Kind) (bytes list : List ℕ) (k : ℕ) → itemSpan kind bytes list k .size ≡ itemEntry kind bytes list k .«digest_length»
 unfolding itemSpan recordSpan entrySpan itemEntry recordEntry entryNo
-span-size (Records at) bytes list k = refl
+span-size (Records from sh) bytes list k = refl
 span-size Entries bytes list k = refl
 
 hash-is : (kind : Kind) (bytes list : List ℕ) (k : ℕ) → itemHash kind bytes list k ≡ itemEntry kind bytes list k .«hash_id»
 unfolding itemHash itemEntry recordEntry entryNo
-hash-is (Records at) bytes list k = refl
+hash-is (Records from sh) bytes list k = refl
 hash-is Entries bytes list k = refl
 
 module _ (kind : Kind) (bytes list extents : List ℕ) (k : ℕ) where
@@ -89,12 +89,12 @@ rows-sorted kind bytes list extents numbers = map-sort (itemRow kind bytes list 
 
 pub extents-length : (kind : Kind) (bytes extents : List ℕ) (first n : ℕ) → length (itemExtents kind bytes extents first n) ≡ n
 unfolding itemExtents
-extents-length (Records at) bytes extents first n = extents-counted bytes first n
+extents-length (Records from sh) bytes extents first n = extents-counted bytes first n
 extents-length Entries bytes extents first n = listed-counted extents first n
 
 pub extents-none : (kind : Kind) (bytes extents : List ℕ) (first : ℕ) → itemExtents kind bytes extents first 0 ≡ []
 unfolding itemExtents extentsAt extentsFrom
-extents-none (Records at) bytes extents first = refl
+extents-none (Records from sh) bytes extents first = refl
 extents-none Entries bytes extents first = refl
 
 module _ (kind : Kind) (bytes list extents : List ℕ) (k : ℕ) (l : Line kind bytes list extents k) where

@@ -16,7 +16,7 @@ use lib.ListN.{length, take, drop}
 use Rattle.segment.specs.declared.record.Record.{Record}
 use Rattle.segment.specs.declared.extent.Extent.{Extent}
 use Rattle.segment.specs.declared.entry.Entry.{Entry}
-use Rattle.segment.specs.Format.{v3, listedSize, inFile, recordOf, extentOf, extentsAt}
+use Rattle.segment.specs.Format.{listedSize, inFile, extentSize, recordFrom, recordOf, extentOf, extentsAt}
 use Rattle.segment.specs.Keys.{keyFrom}
 use Rattle.segment.specs.Check.{sumLengths}
 use Rattle.segment.specs.Meaning.{gone, live, Row, sourceOf}
@@ -41,26 +41,26 @@ recordEntry r = record {
 }
 
 unfoldable pub itemEntry : Kind → List ℕ → List ℕ → ℕ → Entry
-itemEntry (Records at) bytes list k = recordEntry (recordOf v3 bytes (at + 48 * k))
+itemEntry (Records from sh) bytes list k = recordEntry (recordOf sh bytes (recordFrom sh from k))
 itemEntry Entries bytes list k = entryNo list k
 
 -- the j-th extent from the first on, and n of them
 unfoldable pub itemExtent : Kind → List ℕ → List ℕ → ℕ → ℕ → Extent
-itemExtent (Records at) bytes extents first j = extentOf bytes (first + 16 * j)
+itemExtent (Records from sh) bytes extents first j = extentOf bytes (first + extentSize * j)
 itemExtent Entries bytes extents first j = listedExtent extents (first + j)
 
 unfoldable pub itemExtents : Kind → List ℕ → List ℕ → ℕ → ℕ → List Extent
-itemExtents (Records at) bytes extents first n = extentsAt bytes first n
+itemExtents (Records from sh) bytes extents first n = extentsAt bytes first n
 itemExtents Entries bytes extents first n = extentsFrom extents first n
 
 -- they lie in their source
 unfoldable pub Held : Kind → List ℕ → List ℕ → ℕ → ℕ → Type 0
-Held (Records at) bytes extents first n = first + 16 * n ≤ length bytes
+Held (Records from sh) bytes extents first n = first + extentSize * n ≤ length bytes
 Held Entries bytes extents first n = listedSize * (first + n) ≤ length extents
 
 -- a record carries its total; an entry's is the sum of its extents
 unfoldable pub itemTotal : Kind → List ℕ → List ℕ → List ℕ → ℕ → ℕ
-itemTotal (Records at) bytes list extents k = recordOf v3 bytes (at + 48 * k) .«total_length»
+itemTotal (Records from sh) bytes list extents k = recordOf sh bytes (recordFrom sh from k) .«total_length»
 itemTotal Entries bytes list extents k =
     sumLengths (extentsFrom extents (entryNo list k .«first_extent») (entryNo list k .«extent_count»))
 

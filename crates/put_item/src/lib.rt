@@ -14,10 +14,11 @@ ghost use Rattle.lists.specs.Lists.{Each};
 ghost use Rattle.put_item.specs.Lines.{recordEntry, itemEntry, itemExtent, Held, itemTotal, Narrow, Counted, Line, recordOfEntry, measured};
 use field_record::BlockOffset;
 use field_record::FileOffset;
-use field_record::record;
+use field_record::record as fields;
 use key::Kind;
 use segment::entry::Entry;
 use segment::extent::Extent;
+use segment::record;
 use segment::record::Record;
 
 // A field's number as a wider one, so that who reads many fields need not show of each that it fits.
@@ -50,7 +51,9 @@ pub fn entry_of(kind: Kind, bytes: &[u8], list: &[u64], k: usize) -> Entry
     ensures { λ r. ⌜ r ≡ itemEntry kind (now (bytes .entry)) (now (list .entry)) k ⌝ }
 {
     match kind {
-        Kind::Records(at) => entry_of_record(Record::at(bytes, at + Record::SIZE * k)),
+        Kind::Records(first, sh) => {
+            entry_of_record(Record::at(sh, bytes, record::begins(sh, first, k)))
+        }
         Kind::Entries => Entry::at(list, k),
     }
 }
@@ -77,7 +80,7 @@ pub fn extent_of(kind: Kind, bytes: &[u8], extents: &[u64], first: usize, j: usi
     ensures { λ r. ⌜ packed (extentFields r) ≡ packed (extentFields (itemExtent kind (now (bytes .entry)) (now (extents .entry)) first j)) ⌝ }
 {
     match kind {
-        Kind::Records(at) => Extent::at(bytes, first + Extent::SIZE * j),
+        Kind::Records(_, _) => Extent::at(bytes, first + Extent::SIZE * j),
         Kind::Entries => listed_extent(extents, first + j),
     }
 }
@@ -103,7 +106,9 @@ pub fn total_of(kind: Kind, bytes: &[u8], list: &[u64], extents: &[u64], k: usiz
     ensures { λ r. ⌜ r ≡ itemTotal kind (now (bytes .entry)) (now (list .entry)) (now (extents .entry)) k ⌝ }
 {
     match kind {
-        Kind::Records(at) => record::total_length(bytes, at + Record::SIZE * k),
+        Kind::Records(first, sh) => {
+            fields::total_length(bytes, record::begins(sh, first, k), sh.total_wide)
+        }
         Kind::Entries => {
             let e = Entry::at(list, k);
             sum_listed(extents, e.first_extent as usize, e.extent_count as usize)

@@ -68,13 +68,13 @@ from-snoc xs first (suc j) =
 extents-snoc : (kind : Kind) (bytes extents : List ℕ) (first j : ℕ)
     → itemExtents kind bytes extents first (j + 1) ≡ itemExtents kind bytes extents first j ++ (itemExtent kind bytes extents first j ∷ [])
 unfolding itemExtents itemExtent
-extents-snoc (Records at) bytes extents first j = rw add-one (at-snoc bytes first j)
+extents-snoc (Records from sh) bytes extents first j = rw add-one (at-snoc bytes first j)
 extents-snoc Entries bytes extents first j = rw add-one (from-snoc extents first j)
 
 -- fewer of them lie in their source too
 pub held-fewer : (kind : Kind) (bytes extents : List ℕ) (first m n : ℕ) → m ≤ n → Held kind bytes extents first n → Held kind bytes extents first m
 unfolding Held
-held-fewer (Records at) bytes extents first m n l h = omega arith
+held-fewer (Records from sh) bytes extents first m n l h = omega arith
 held-fewer Entries bytes extents first m n l h = omega arith
 
 pub record Listing (kind : Kind) (bytes extents out₀ : List ℕ) (first count at j : ℕ) (out : List ℕ) : Type 0 where

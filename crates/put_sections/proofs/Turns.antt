@@ -4,6 +4,7 @@ use Prim.Native.Nat.{ℕ, _+_, _*_, _≤_, _<_}
 use mathlib.Core.Path.{_≡_, refl, ap, _∙_}
 use mathlib.Core.List.{List, [], _++_}
 use native.Mathlib.Numerals.{add-one}
+use native.Mathlib.Nat.{mul-le-mul-left}
 use native.Mathlib.Omega.{arith}
 use lib.ListN.{length, getD, drop, drop-of-length-le, length-map}
 use lib.Seq.{drop-cons}
@@ -12,10 +13,12 @@ use Rattle.numbers.proofs.NumberLaws.{length-put}
 use Rattle.segment.specs.declared.header.Header.{Header}
 use Rattle.segment.specs.declared.record.Record.{Record}
 use Rattle.segment.specs.declared.entry.Entry.{Entry}
-use Rattle.segment.specs.Format.{v3, digestsOffset, extentsOffset}
+use Rattle.segment.specs.declared.shape.Shape.{Shape}
+use Rattle.segment.specs.Format.{digestsOffset, extentsOffset}
 use Rattle.segment.specs.Tidy.{packed, recordFields, recordsBytes, extentListBytes, extentBytes}
 use Rattle.form_laws.proofs.Structures.{extents-long}
-use Rattle.form_laws.proofs.Shapes.{v3-shaped, record-long}
+use Rattle.segment.specs.Shapes.{Shaped}
+use Rattle.form_laws.proofs.Shapes.{record-long}
 use Rattle.form_laws.proofs.Sizes.{records-long}
 use Rattle.key.specs.declared.Kind.{Kind}
 use Rattle.key.specs.Items.{itemDigest}
@@ -27,23 +30,29 @@ use Rattle.put_sections.proofs.Filling.{Filling, filling-start, filling
 
 -- ---- records
 
--- k records stand; the next one's digest and extents go to d and x
-pub record Recording (h : Header) (kind : Kind) (bytes list extents numbers out₀ : List ℕ) (k d x : ℕ) (out : List ℕ) : Type 0 where
+-- k records of a shape stand; the next one's digest and extents go to d and x
+pub record Recording (sh : Shape) (h : Header) (kind : Kind) (bytes list extents numbers out₀ : List ℕ) (k d x : ℕ) (out : List ℕ) : Type 0 where
   pub within : k ≤ length numbers
   pub same : length out ≡ length out₀
   pub short : d ≤ digestsOffset h + 1024 * k
   pub few : x ≤ extentsOffset h + 68719476736 * k
-  pub filling : Filling (recordsBytes v3 (h .domain) (itemRows kind bytes list extents numbers) (digestsOffset h) (extentsOffset h)) out (48 * k)
-      (recordsBytes v3 (h .domain) (itemRows kind bytes list extents (drop k numbers)) d x)
+  pub filling : Filling (recordsBytes sh (h .domain) (itemRows kind bytes list extents numbers) (digestsOffset h) (extentsOffset h)) out (sh .«record_size» * k)
+      (recordsBytes sh (h .domain) (itemRows kind bytes list extents (drop k numbers)) d x)
 
-module _ (h : Header) (kind : Kind) (bytes list extents numbers out₀ : List ℕ) where
+-- the next record's bytes lie in the output
+pub record-room : (size n k m : ℕ) → k < n → m ≡ size * n → size * k + size ≤ m
+record-room size n k m l e = omega (arith, mul-le-mul-left size l)
+
+module _ (sh : Shape) (wf : Shaped sh) (h : Header) (kind : Kind) (bytes list extents numbers out₀ : List ℕ) where
   abbrev all : List ℕ
-  all = recordsBytes v3 (h .domain) (itemRows kind bytes list extents numbers) (digestsOffset h) (extentsOffset h)
+  all = recordsBytes sh (h .domain) (itemRows kind bytes list extents numbers) (digestsOffset h) (extentsOffset h)
 
-  pub recording-start : Recording h kind bytes list extents numbers out₀ 0 (digestsOffset h) (extentsOffset h) out₀
-  recording-start = record { within = omega arith; same = refl; short = omega arith; few = omega arith; filling = filling-start all out₀ }
+  pub recording-start : Recording sh h kind bytes list extents numbers out₀ 0 (digestsOffset h) (extentsOffset h) out₀
+  recording-start =
+      let z : sh .«record_size» * 0 ≡ 0 = omega arith in
+      record { within = omega arith; same = refl; short = omega arith; few = omega arith; filling = rw z (filling-start all out₀) }
 
-  module _ (k d x : ℕ) (out : List ℕ) (w : Recording h kind bytes list extents numbers out₀ k d x out) where
+  module _ (k d x : ℕ) (out : List ℕ) (w : Recording sh h kind bytes list extents numbers out₀ k d x out) where
     module _ (e : Entry) (l : k < length numbers) (q : e ≡ itemEntry kind bytes list (getD numbers k 0)) (ls : Lines kind bytes list extents numbers) where
       here : Line kind bytes list extents (getD numbers k 0)
       here = each-at (Line kind bytes list extents) numbers k ls l
@@ -54,9 +63,9 @@ module _ (h : Header) (kind : Kind) (bytes list extents numbers out₀ : List �
       pub record-small : (e .«digest_length» ≤ 1024) × (e .«extent_count» < 4294967296)
       record-small = (record-narrow .digest, record-narrow .extents)
 
-      next : recordsBytes v3 (h .domain) (itemRows kind bytes list extents (drop k numbers)) d x
-          ≡ packed (recordFields v3 (recordOfEntry e (itemTotal kind bytes list extents (getD numbers k 0)) (h .domain) d x))
-          ++ recordsBytes v3 (h .domain) (itemRows kind bytes list extents (drop (k + 1) numbers)) (d + e .«digest_length») (x + 16 * e .«extent_count»)
+      next : recordsBytes sh (h .domain) (itemRows kind bytes list extents (drop k numbers)) d x
+          ≡ packed (recordFields sh (recordOfEntry e (itemTotal kind bytes list extents (getD numbers k 0)) (h .domain) d x))
+          ++ recordsBytes sh (h .domain) (itemRows kind bytes list extents (drop (k + 1) numbers)) (d + e .«digest_length») (x + 16 * e .«extent_count»)
       unfolding recordsBytes
       next =
           rw (
@@ -69,34 +78,38 @@ module _ (h : Header) (kind : Kind) (bytes list extents numbers out₀ : List �
           )
 
       pub recording-more : (total : ℕ) (r : Record) (out′ : List ℕ) → total ≡ itemTotal kind bytes list extents (getD numbers k 0)
-          → r ≡ recordOfEntry e total (h .domain) d x → out′ ≡ put out (48 * k) (packed (recordFields v3 r)) → length out₀ ≡ 48 * length numbers
-          → Recording h kind bytes list extents numbers out₀ (k + 1) (d + e .«digest_length») (x + 16 * e .«extent_count») out′
+          → r ≡ recordOfEntry e total (h .domain) d x → out′ ≡ put out (sh .«record_size» * k) (packed (recordFields sh r)) → length out₀ ≡ sh .«record_size» * length numbers
+          → Recording sh h kind bytes list extents numbers out₀ (k + 1) (d + e .«digest_length») (x + 16 * e .«extent_count») out′
       recording-more total r out′ t p u n =
-          let bs : List ℕ = packed (recordFields v3 r) in
-          let i : length bs ≡ 48 = record-long v3 v3-shaped r in
-          let f : recordsBytes v3 (h .domain) (itemRows kind bytes list extents (drop k numbers)) d x
-          ≡ bs ++ recordsBytes v3 (h .domain) (itemRows kind bytes list extents (drop (k + 1) numbers)) (d + e .«digest_length») (x + 16 * e .«extent_count») =
+          let bs : List ℕ = packed (recordFields sh r) in
+          let i : length bs ≡ sh .«record_size» = record-long sh wf r in
+          let f : recordsBytes sh (h .domain) (itemRows kind bytes list extents (drop k numbers)) d x
+          ≡ bs ++ recordsBytes sh (h .domain) (itemRows kind bytes list extents (drop (k + 1) numbers)) (d + e .«digest_length») (x + 16 * e .«extent_count») =
           next ∙ rw (p, t) in
-          let room : 48 * k + length bs ≤ length out = omega (arith, w .same) in
-          let g = filling-more all out (48 * k) _ (w .filling) bs _ f out′ u room in
-          let j : 48 * k + length bs ≡ 48 * (k + 1) = omega arith in
+          let room : sh .«record_size» * k + length bs ≤ length out = omega (arith, i, record-room (sh .«record_size») (length numbers) k (length out) l (w .same ∙ n)) in
+          let g = filling-more all out (sh .«record_size» * k) _ (w .filling) bs _ f out′ u room in
+          let j : sh .«record_size» * k + length bs ≡ sh .«record_size» * (k + 1) = omega arith in
           let s = record-small in
           record {
             within = omega arith;
-            same = ap length u ∙ length-put out (48 * k) bs room ∙ w .same;
+            same = ap length u ∙ length-put out (sh .«record_size» * k) bs room ∙ w .same;
             short = omega (arith, w .short);
             few = omega (arith, w .few);
             filling = rw j at g;
           }
 
-    pub recording-done : length numbers ≤ k → length out₀ ≡ 48 * length numbers → out ≡ all
+    pub recording-done : length numbers ≤ k → length out₀ ≡ sh .«record_size» * length numbers → out ≡ all
     unfolding recordsBytes
     recording-done l n =
         let rows = itemRows kind bytes list extents numbers in
         let m : length out₀ ≡ length all =
-        omega (arith, records-long v3 v3-shaped (h .domain) rows (digestsOffset h) (extentsOffset h), length-map numbers (itemRow kind bytes list extents)) in
-        let z : recordsBytes v3 (h .domain) (itemRows kind bytes list extents (drop k numbers)) d x ≡ [] = rw (drop-of-length-le numbers l) in
-        filling-done all out (48 * k) _ (w .filling) z (w .same ∙ m)
+        omega (
+          arith,
+          records-long sh wf (h .domain) rows (digestsOffset h) (extentsOffset h),
+          ap (λ (n : ℕ). sh .«record_size» * n) (length-map numbers (itemRow kind bytes list extents)),
+        ) in
+        let z : recordsBytes sh (h .domain) (itemRows kind bytes list extents (drop k numbers)) d x ≡ [] = rw (drop-of-length-le numbers l) in
+        filling-done all out (sh .«record_size» * k) _ (w .filling) z (w .same ∙ m)
 
 -- ---- digests
 

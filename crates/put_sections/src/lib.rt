@@ -4,7 +4,8 @@ ghost use mathlib.Core.Path.{_≡_};
 ghost use Prim.Native.Nat.{_+_, _*_, _≤_};
 ghost use lib.ListN.{length, replicate};
 ghost use Rattle.numbers.specs.Numbers.{put};
-ghost use Rattle.segment.specs.Format.{v3, digestsOffset, extentsOffset};
+ghost use Rattle.segment.specs.Format.{extentSize, digestsOffset, extentsOffset};
+ghost use Rattle.segment.specs.Shapes.{Shaped};
 ghost use Rattle.segment.specs.Tidy.{recordsBytes, lacking, extentListBytes, extentBytes};
 ghost use Rattle.key.specs.Items.{Item};
 ghost use Rattle.lists.specs.Lists.{Each};
@@ -13,7 +14,7 @@ ghost use Rattle.put_sections.specs.Sections.{Near, itemDigests, itemSec
 use key::Kind;
 use segment::extent::Extent;
 use segment::header::Header;
-use segment::record::Record;
+use segment::shape::Shape;
 
 // A run of bytes, copied to a place.
 pub fn copy_bytes(from: &[u8], at: usize, out: &mut [u8])
@@ -40,6 +41,7 @@ fn clear(out: &mut [u8])
 
 // The records. Each one's digest and extents lie behind those of the records before it.
 pub fn put_records(
+    sh: Shape,
     h: Header,
     kind: Kind,
     bytes: &[u8],
@@ -50,8 +52,9 @@ pub fn put_records(
 )
     requires { ⌜ Lines kind (now bytes) (now list) (now extents) (now numbers) ⌝ }
     requires { ⌜ Near h (now numbers) ⌝ }
-    requires { ⌜ length (now out) ≡ 48 * length (now numbers) ⌝ }
-    ensures { λ _. ⌜ now (out .exit) ≡ recordsBytes v3 (h .domain)
+    requires { ⌜ Shaped sh ⌝ }
+    requires { ⌜ length (now out) ≡ sh .«record_size» * length (now numbers) ⌝ }
+    ensures { λ _. ⌜ now (out .exit) ≡ recordsBytes sh (h .domain)
         (itemRows kind (now (bytes .entry)) (now (list .entry)) (now (extents .entry)) (now (numbers .entry))) (digestsOffset h) (extentsOffset h) ⌝ }
 {
     let mut digest_at = h.digests_offset.0;
@@ -62,7 +65,7 @@ pub fn put_records(
         let e = put_item::entry_of(kind, bytes, list, i);
         let total = put_item::total_of(kind, bytes, list, extents, i);
         let r = put_item::record_for(e, total, h.domain, digest_at, extents_at);
-        put_fields::put_record(r, Record::SIZE * k, out);
+        put_fields::put_record(sh, r, sh.record_size * k, out);
         digest_at += e.digest_length;
         extents_at += Extent::LONG * e.extent_count;
         k += 1;
@@ -114,7 +117,7 @@ fn put_list(
     out: &mut [u8],
 )
     requires { ⌜ Held kind (now bytes) (now extents) first count ⌝ }
-    requires { ⌜ at + 16 * count ≤ length (now out) ⌝ }
+    requires { ⌜ at + extentSize * count ≤ length (now out) ⌝ }
     ensures { λ _. ⌜ now (out .exit) ≡ put (now (out .entry)) at
         (extentListBytes (itemExtents kind (now (bytes .entry)) (now (extents .entry)) first count)) ⌝ }
 {

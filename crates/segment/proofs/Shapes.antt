@@ -1,12 +1,14 @@
 -- What a shape gives whoever reads or writes its records.
 --   v3-shaped       version 3 has what is asked of a shape
 --   shaped-least, shaped-most, shaped-divides   a record's size
+--   records-fit     the bytes of a segment's records
 --   fields-inside, total-inside   in a record that lies in the segment, the fields that every version has and the total lie there too
 -- Assumes nothing.
 use Prim.Native.Nat.{ℕ, _+_, _*_, _%_, _≤_, _<_}
 use mathlib.Core.Path.{_≡_, refl, ap, subst, _∙_}
 use mathlib.Core.Bool.{Bool, true, false}
 use mathlib.Core.List.{List}
+use native.Mathlib.Nat.{mul-le-mul}
 use native.Mathlib.Omega.{arith}
 use lib.Dec.{lit<}
 use lib.ListN.{length}
@@ -34,6 +36,10 @@ module _ (sh : Shape) (w : Shaped sh) where
 
   pub shaped-divides : (n : ℕ) → (sh .«record_size» * n) % 8 ≡ 0
   shaped-divides n = by-size (λ e. rw e (omega arith)) (λ e. rw e (omega arith))
+
+  -- as many records as a segment may have are no more bytes than a number can say
+  pub records-fit : (n : ℕ) → n ≤ 65536 → sh .«record_size» * n < 18446744073709551616
+  records-fit n l = omega (arith, mul-le-mul shaped-most l)
 
   module _ (s : List ℕ) (at : ℕ) (h : at + sh .«record_size» ≤ length s) where
     pub fields-inside : at + 48 ≤ length s

@@ -1,6 +1,7 @@
 -- `check_header::check_layout` meets its contract: a row for each return.
 use borrow.Author.Needs.{needs}
-use Rattle.check_header.proofs.HeaderRows.{records-fit, layout-rows}
+use Rattle.segment.proofs.Shapes.{records-fit}
+use Rattle.check_header.proofs.HeaderRows.{layout-rows}
 use Rattle.check_header.proofs.check_layout.Statement.{statement}
 use Rattle.check_header.proofs.check_layout.Tie as tie
 

@@ -2,17 +2,18 @@
 use native.Mathlib.Omega.{arith}
 use borrow.Author.Needs.{needs}
 use Rattle.segment.specs.Tidy.{footerFields}
-use Rattle.put_fields.proofs.Packing.{run-3}
+use Rattle.form_laws.proofs.PackedFields.{widths}
+use Rattle.put_fields.proofs.Packing.{field-first, field-next}
 use Rattle.put_fields.proofs.put_footer.Statement.{statement}
 use Rattle.put_fields.proofs.put_footer.Tie as tie
 
 returns : tie.Need-returns
-unfolding footerFields
+unfolding footerFields widths
 returns c =
     let third = c .before .before in
     let second = third .before .before .before .before in
     let first = second .before .before .before .before in
-    run-3 _ _ _ _ 8 _ 8 _ (first .put-u64 .ensures) (second .put-u642 .ensures) _ 8 _ (third .put-u643 .ensures) (omega arith)
+    (field-next (field-next (field-first _ _ _ 8 _ (first .put-u64 .ensures)) _ _ 8 _ (second .put-u642 .ensures) (omega arith) (omega arith)) _ _ 8 _ (third .put-u643 .ensures) (omega arith) (omega arith)) .done
 
 pub put-footer-spec : {M : Type 1} → statement M
 put-footer-spec =

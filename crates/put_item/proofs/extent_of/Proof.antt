@@ -10,11 +10,11 @@ extent-of-spec =
     tie.close
     (tie.spec
     (λ c. search needs)
-    (λ c. let h = record-held _ _ _ _ (c .before .kind .given .0 .0) _ (c .before .kind .given .1) (c .before .before .before .before .before .pre) in omega arith)
-    (λ c. let h = record-held _ _ _ _ (c .before .kind .given .0 .0) _ (c .before .kind .given .1) (c .before .before .before .before .before .pre) in omega arith)
-    (λ c κs. let h = record-held _ _ _ _ (c .before .kind .given .0 .0) _ (c .before .kind .given .1) (c .before .before .before .before .before .pre) in omega arith)
+    (λ c. let h = record-held _ _ _ _ _ _ _ (c .enum-told .given .1) (c .before .before .before .before .pre) in omega arith)
+    (λ c. let h = record-held _ _ _ _ _ _ _ (c .enum-told .given .1) (c .before .before .before .before .pre) in omega arith)
+    (λ c κs. let h = record-held _ _ _ _ _ _ _ (c .enum-told .given .1) (c .before .before .before .before .pre) in omega arith)
     (λ c. search needs)
-    (λ c. let h = entry-held _ _ _ _ _ (c .enum-told .given .1) (c .before .before .before .before .pre) in omega arith)
-    (λ c κs. let h = entry-held _ _ _ _ _ (c .enum-told .given .1) (c .before .before .before .before .pre) in omega arith)
-    (λ c. record-extent _ _ _ _ _ (c .before .before .kind .given .0 .0) _ (c .before .before .kind .given .1) (c .at .ensures))
-    (λ c. entry-extent _ _ _ _ _ _ (c .before .enum-told .given .1) (c .listed-extent .ensures)))
+    (λ c. let h = entry-held _ _ _ _ _ (c .enum-told2 .given .1) (c .before .before .before .before .pre) in omega arith)
+    (λ c κs. let h = entry-held _ _ _ _ _ (c .enum-told2 .given .1) (c .before .before .before .before .pre) in omega arith)
+    (λ c. record-extent _ _ _ _ _ _ _ _ (c .before .enum-told .given .1) (c .at .ensures))
+    (λ c. entry-extent _ _ _ _ _ _ (c .before .enum-told2 .given .1) (c .listed-extent .ensures)))
