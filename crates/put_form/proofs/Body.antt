@@ -12,32 +12,35 @@ use Rattle.crc64.specs.Crc.{crc}
 use Rattle.segment.specs.declared.header.Header.{Header}
 use Rattle.segment.specs.declared.header.Heading.{Heading}
 use Rattle.segment.specs.declared.footer.Footer.{Footer}
-use Rattle.segment.specs.Format.{v3, recordsOffset, digestsOffset, extentsOffset}
+use Rattle.segment.specs.declared.shape.Shape.{Shape}
+use Rattle.segment.specs.Shapes.{Shaped}
+use Rattle.segment.specs.Format.{recordsOffset, digestsOffset, extentsOffset}
 use Rattle.segment.specs.Meaning.{Row}
 use Rattle.segment.specs.Tidy.{packed, headerFields, footerFields, recordsBytes, digestSection, extentBytes, formHeader, formBody, formOf}
 use Rattle.form_laws.proofs.Structures.{header-long, footer-long}
-use Rattle.form_laws.proofs.Shapes.{v3-shaped}
 use Rattle.form_laws.proofs.Sizes.{body-length, records-long, extentBytes-long}
 use Rattle.put_form.specs.Emit.{Plan, sectionsUnder, bodyUnder}
+use Rattle.put_form.proofs.Plans.{lies}
 
-module _ (h : Header) (bloom : List ℕ) (rows : List Row) (used : ℕ) (o : List ℕ) (q : Plan h rows used (length o)) (e : recordsOffset h ≡ 112 + length bloom) where
+module _ (sh : Shape) (wf : Shaped sh) (h : Header) (bloom : List ℕ) (rows : List Row) (used : ℕ) (o : List ℕ) (q : Plan sh h rows used (length o))
+    (e : recordsOffset h ≡ 112 + length bloom) where
   abbrev head : List ℕ
   head = packed (headerFields h)
 
-  sections-length : length (sectionsUnder h rows) + recordsOffset h + 24 ≡ length o
+  sections-length : length (sectionsUnder sh h rows) + recordsOffset h + 24 ≡ length o
   unfolding sectionsUnder
   sections-length =
-      let a = recordsBytes v3 (h .domain) rows (digestsOffset h) (extentsOffset h) in
+      let a = recordsBytes sh (h .domain) rows (digestsOffset h) (extentsOffset h) in
       omega (
         arith,
         length-append a (digestSection rows ++ extentBytes rows),
         length-append (digestSection rows) (extentBytes rows),
-        records-long v3 v3-shaped (h .domain) rows (digestsOffset h) (extentsOffset h),
+        records-long sh wf (h .domain) rows (digestsOffset h) (extentsOffset h),
         extentBytes-long rows,
-        q .digests,
-        q .extents,
-        q .count,
-        q .file,
+        lies wf q .digests,
+        lies wf q .extents,
+        lies wf q .count,
+        lies wf q .file,
       )
 
   pub head-room : 112 + length bloom + 24 ≤ length o
@@ -51,13 +54,13 @@ module _ (h : Header) (bloom : List ℕ) (rows : List Row) (used : ℕ) (o : Lis
       pub long₂ : length w₂ ≡ length o
       long₂ = ap length p₂ ∙ length-put w₁ 112 bloom (omega (arith, long₁, head-room)) ∙ long₁
 
-      pub same-plan : Plan h rows used (length w₂)
+      pub same-plan : Plan sh h rows used (length w₂)
       same-plan = rw long₂ q
 
-      pub body-done : (w₃ : List ℕ) → w₃ ≡ put w₂ (recordsOffset h) (sectionsUnder h rows) → w₃ ≡ put o 0 (bodyUnder h bloom rows)
+      pub body-done : (w₃ : List ℕ) → w₃ ≡ put w₂ (recordsOffset h) (sectionsUnder sh h rows) → w₃ ≡ put o 0 (bodyUnder sh h bloom rows)
       unfolding bodyUnder
       body-done w₃ p₃ =
-          let s : List ℕ = sectionsUnder h rows in
+          let s : List ℕ = sectionsUnder sh h rows in
           let a : put (put w₁ 112 bloom) (112 + length bloom) s ≡ put w₁ 112 (bloom ++ s) = put-put w₁ 112 bloom s (omega (arith, long₁, head-room)) in
           let b : put (put o 0 head) (0 + length head) (bloom ++ s) ≡ put o 0 (head ++ (bloom ++ s)) = put-put o 0 head (bloom ++ s) (omega (arith, header-long h, head-room)) in
           let n : 0 + length head ≡ 112 = omega (arith, header-long h) in
@@ -74,21 +77,22 @@ put-all o bs l =
     let d : drop (0 + length bs) o ≡ [] = drop-of-length-le o {i = 0 + length bs} (omega arith) in
     rw d (append-nil bs)
 
-module _ (t : Heading) (h : Header) (bloom : List ℕ) (rows : List Row) (used : ℕ) (o : List ℕ) (q : Plan h rows used (length o)) (e : h ≡ formHeader v3 t (length bloom) rows) where
+module _ (sh : Shape) (wf : Shaped sh) (t : Heading) (h : Header) (bloom : List ℕ) (rows : List Row) (used : ℕ) (o : List ℕ) (q : Plan sh h rows used (length o))
+    (e : h ≡ formHeader sh t (length bloom) rows) where
   pub records-at : recordsOffset h ≡ 112 + length bloom
   unfolding formHeader
   records-at = ap (λ (x : Header). recordsOffset x) e
 
-  long : length o ≡ length (formBody v3 t bloom rows) + 24
-  long = omega (arith, q .digests, q .extents, q .count, q .file, records-at, body-length v3 v3-shaped t bloom rows)
+  long : length o ≡ length (formBody sh t bloom rows) + 24
+  long = omega (arith, lies wf q .digests, lies wf q .extents, lies wf q .count, lies wf q .file, records-at, body-length sh wf t bloom rows)
 
-  same-body : bodyUnder h bloom rows ≡ formBody v3 t bloom rows
+  same-body : bodyUnder sh h bloom rows ≡ formBody sh t bloom rows
   unfolding bodyUnder sectionsUnder formBody formHeader
   same-body = rw e
 
-  module _ (w₁ : List ℕ) (p : w₁ ≡ put o 0 (bodyUnder h bloom rows)) where
+  module _ (w₁ : List ℕ) (p : w₁ ≡ put o 0 (bodyUnder sh h bloom rows)) where
     abbrev body : List ℕ
-    body = formBody v3 t bloom rows
+    body = formBody sh t bloom rows
 
     over : w₁ ≡ put o 0 body
     over = p ∙ ap (put o 0) same-body
@@ -105,7 +109,7 @@ module _ (t : Heading) (h : Header) (bloom : List ℕ) (rows : List Row) (used :
 
     pub form-done : (w₂ : List ℕ) (sum : ℕ) → sum ≡ crc (take (length w₁ - 24) w₁)
         → w₂ ≡ put w₁ (length w₁ - 24) (packed (footerFields (record { checksum = sum; «seal_snapshot» = t .«seal_snapshot»; «seal_time» = t .«seal_time» })))
-        → w₂ ≡ formOf v3 t bloom rows
+        → w₂ ≡ formOf sh t bloom rows
     unfolding formOf
     form-done w₂ sum g r =
         let f : Footer = record { checksum = crc body; «seal_snapshot» = t .«seal_snapshot»; «seal_time» = t .«seal_time» } in

@@ -1,3 +1,4 @@
+pub mod Plans
 pub mod Stretches
 pub mod Body
 pub mod Planning

@@ -3,6 +3,7 @@
 use Prim.Native.Nat.{ℕ, _+_, _*_, _≤_, _<_}
 use mathlib.Core.Path.{_≡_, refl, sym, ap, _∙_}
 use mathlib.Core.List.{List, [], _∷_, _++_}
+use native.Mathlib.Nat.{mul-le-mul}
 use native.Mathlib.Omega.{arith}
 use lib.ListN.{length, drop, length-map}
 use Rattle.answer.specs.declared.Rule.the-variants.{Room, Large}
@@ -11,11 +12,14 @@ use Rattle.answer.specs.declared.Written.the-variants.{Done, Refused}
 use Rattle.lists.proofs.Tests.{tests}
 use Rattle.segment.specs.declared.header.Header.{Header}
 use Rattle.segment.specs.declared.header.Heading.{Heading}
-use Rattle.segment.specs.Format.{v3, inFile, extentsOffset, extentCount}
+use Rattle.segment.specs.declared.shape.Shape.{Shape}
+use Rattle.segment.specs.Shapes.{Shaped}
+use Rattle.segment.specs.Format.{inFile, extentsOffset, extentCount}
+use Rattle.segment.proofs.Shapes.{shaped-most}
 use Rattle.segment.specs.Check.{bloomPlace}
 use Rattle.segment.specs.Meaning.{Row}
 use Rattle.segment.specs.Tidy.{digestBytes, lacking, digestSection, extentTotal, largestVisibility, formHeader, formOf, roomVerdict, settled}
-use Rattle.form_laws.proofs.Sizes.{section-long, v3-length}
+use Rattle.form_laws.proofs.Sizes.{section-long, form-length}
 use Rattle.key.specs.declared.Kind.{Kind}
 use Rattle.lists.specs.Lists.{Each}
 use Rattle.put_item.specs.declared.Sizes.{Sizes}
@@ -34,7 +38,7 @@ module _ (kind : Kind) (bytes list extents : List ℕ) where
       let r = small ks (l .1) in
       (omega (arith, n .digest, r .0), omega (arith, n .extents, r .1), omega (arith, n .visibility, r .2))
 
-  module _ (t : Heading) (bloom numbers : List ℕ) (l : Lines kind bytes list extents numbers) (few : length numbers ≤ 65536) (s : Sizes) (m : s ≡ measured kind bytes list numbers) where
+  module _ (sh : Shape) (wf : Shaped sh) (t : Heading) (bloom numbers : List ℕ) (l : Lines kind bytes list extents numbers) (few : length numbers ≤ 65536) (s : Sizes) (m : s ≡ measured kind bytes list numbers) where
     abbrev rows : List Row
     rows = itemRows kind bytes list extents numbers
 
@@ -52,6 +56,9 @@ module _ (kind : Kind) (bytes list extents : List ℕ) where
     many : length numbers ≡ length rows
     many = sym (length-map numbers (itemRow kind bytes list extents))
 
+    bytes-many : sh .«record_size» * length numbers ≡ sh .«record_size» * length rows
+    bytes-many = ap (λ (n : ℕ). sh .«record_size» * n) many
+
     pub digests-are : s .digests ≡ length (digestBytes rows)
     digests-are = ap (λ (x : Sizes). x .digests) m ∙ sym (digests-come kind bytes list extents numbers l)
 
@@ -64,15 +71,15 @@ module _ (kind : Kind) (bytes list extents : List ℕ) where
     visibility-is : s .visibility ≡ largestVisibility rows
     visibility-is = ap (λ (x : Sizes). x .visibility) m ∙ sym (visibility-comes kind bytes list extents numbers)
 
-    header-same : headerFor t (length bloom) (length numbers) s ≡ formHeader v3 t (length bloom) rows
+    header-same : headerFor sh t (length bloom) (length numbers) s ≡ formHeader sh t (length bloom) rows
     unfolding headerFor formHeader
     header-same =
-        let digests : 112 + length bloom + 48 * length numbers ≡ 112 + length bloom + 48 * length rows = omega (arith, many) in
-        let end : 112 + length bloom + 48 * length numbers + (s .digests + lacking (s .digests)) ≡ 112 + length bloom + 48 * length rows + length (digestSection rows) =
-        omega (arith, many, size-is) in
+        let digests : 112 + length bloom + sh .«record_size» * length numbers ≡ 112 + length bloom + sh .«record_size» * length rows = omega (arith, bytes-many) in
+        let end : 112 + length bloom + sh .«record_size» * length numbers + (s .digests + lacking (s .digests)) ≡ 112 + length bloom + sh .«record_size» * length rows + length (digestSection rows) =
+        omega (arith, bytes-many, size-is) in
         λ j. record {
-          magic = v3 .magic;
-          version = v3 .version;
+          magic = sh .magic;
+          version = sh .version;
           shard = t .shard;
           «header_size» = 112;
           «snapshot_min» = t .«snapshot_min»;
@@ -92,35 +99,34 @@ module _ (kind : Kind) (bytes list extents : List ℕ) where
           flags = 0;
         }
 
-    module _ (h : Header) (e : h ≡ headerFor t (length bloom) (length numbers) s) where
-      pub form-header : h ≡ formHeader v3 t (length bloom) rows
+    module _ (h : Header) (e : h ≡ headerFor sh t (length bloom) (length numbers) s) where
+      pub form-header : h ≡ formHeader sh t (length bloom) rows
       form-header = e ∙ header-same
 
       pub bounded : length bloom ≤ 1073741824 → (extentsOffset h ≤ 2147483648) × (extentCount h ≤ 281474976710656)
       unfolding headerFor
       bounded b =
           let k = moderate b in
-          let x : extentsOffset h ≡ 112 + length bloom + 48 * length numbers + (s .digests + lacking (s .digests)) = ap (λ (y : Header). extentsOffset y) e in
+          let x : extentsOffset h ≡ 112 + length bloom + sh .«record_size» * length numbers + (s .digests + lacking (s .digests)) = ap (λ (y : Header). extentsOffset y) e in
           let z : extentCount h ≡ s .extents = ap (λ (y : Header). extentCount y) e in
-          (omega (arith, k .short, k .few, k .digests, x), omega (arith, k .extents, z))
+          (omega (arith, k .short, mul-le-mul (shaped-most sh wf) (k .few), k .digests, x), omega (arith, k .extents, z))
 
       -- the length of the form, as the header says it
-      pub form-long : length (formOf v3 t bloom rows) ≡ extentsOffset h + 16 * extentCount h + 24
+      pub form-long : length (formOf sh t bloom rows) ≡ extentsOffset h + 16 * extentCount h + 24
       unfolding formHeader
       form-long =
-          let a : extentsOffset h ≡ 112 + length bloom + 48 * length rows + length (digestSection rows) = ap (λ (x : Header). extentsOffset x) form-header in
+          let a : extentsOffset h ≡ 112 + length bloom + sh .«record_size» * length rows + length (digestSection rows) = ap (λ (x : Header). extentsOffset x) form-header in
           let b : extentCount h ≡ extentTotal rows = ap (λ (x : Header). extentCount x) form-header in
-          v3-length t bloom rows ∙ omega (arith, a, b)
+          form-length sh wf t bloom rows ∙ omega (arith, a, b)
 
-      pub plan : (n : ℕ) → n ≡ extentsOffset h + 16 * extentCount h + 24 → n ≤ 1073741824 → Plan h rows (s .digests) n
-      unfolding formHeader
+      pub plan : (n : ℕ) → n ≡ extentsOffset h + 16 * extentCount h + 24 → n ≤ 1073741824 → Plan sh h rows (s .digests) n
       plan n f k = record {
+        heading = t;
+        bloom = bloom;
+        header = form-header;
+        file = f ∙ sym form-long;
         few = omega (arith, few, many);
-        digests = ap (λ (x : Header). x .«digests_offset» .0) form-header ∙ ap (λ (x : Header). x .«records_offset» .0 + 48 * length rows) (sym form-header);
-        extents = ap (λ (x : Header). extentsOffset x) form-header ∙ ap (λ (x : Header). x .«digests_offset» .0 + length (digestSection rows)) (sym form-header);
-        count = ap (λ (x : Header). extentCount x) form-header;
         filled = digests-are;
-        file = f;
         limit = k;
       }
 
@@ -139,5 +145,5 @@ module _ (form out : List ℕ) where
   unfolding settled roomVerdict
   written n p e h l q = record { answer = simp (tests, e); output = rw q }
 
-pub bloom-large : (t : Heading) (bloom : List ℕ) (rows : List Row) → 1073741824 < length bloom → 1073741824 < length (formOf v3 t bloom rows)
-bloom-large t bloom rows h = omega (arith, v3-length t bloom rows)
+pub bloom-large : (sh : Shape) → Shaped sh → (t : Heading) (bloom : List ℕ) (rows : List Row) → 1073741824 < length bloom → 1073741824 < length (formOf sh t bloom rows)
+bloom-large sh wf t bloom rows h = omega (arith, form-length sh wf t bloom rows)

@@ -9,10 +9,11 @@ use lib.ListN.{length, take, drop, length-append, length-map, take-append-drop}
 use lib.Seq.{length-take-le}
 use Rattle.numbers.specs.Numbers.{put}
 use Rattle.segment.specs.declared.header.Header.{Header}
-use Rattle.segment.specs.Format.{v3, recordsOffset, digestsOffset, extentsOffset}
+use Rattle.segment.specs.declared.shape.Shape.{Shape}
+use Rattle.segment.specs.Shapes.{Shaped}
+use Rattle.segment.specs.Format.{recordsOffset, digestsOffset, extentsOffset}
 use Rattle.segment.specs.Meaning.{Row}
 use Rattle.segment.specs.Tidy.{recordsBytes, digestBytes, lacking, digestSection, extentBytes}
-use Rattle.form_laws.proofs.Shapes.{v3-shaped}
 use Rattle.form_laws.proofs.Sizes.{records-long, section-long, extentBytes-long}
 use Rattle.key.specs.declared.Kind.{Kind}
 use Rattle.put_item.specs.Lines.{itemRow, itemRows}
@@ -20,6 +21,7 @@ use Rattle.put_item.proofs.ItemRows.{row-digest}
 use Rattle.put_sections.specs.Sections.{Near, itemDigests, itemSection}
 use Rattle.put_sections.proofs.Lends.{grown, part-long}
 use Rattle.put_form.specs.Emit.{Plan, sectionsUnder}
+use Rattle.put_form.proofs.Plans.{Lies, lies}
 
 -- ---- the digests of items are those of their rows
 
@@ -35,7 +37,10 @@ module _ (kind : Kind) (bytes list extents : List ℕ) where
 
 -- ---- the stretches
 
-module _ (h : Header) (rows : List Row) (used : ℕ) (o : List ℕ) (q : Plan h rows used (length o)) where
+module _ (sh : Shape) (wf : Shaped sh) (h : Header) (rows : List Row) (used : ℕ) (o : List ℕ) (q : Plan sh h rows used (length o)) where
+  abbrev lie : Lies sh h rows (length o)
+  lie = lies wf q
+
   abbrev records : ℕ
   records = recordsOffset h
 
@@ -54,13 +59,15 @@ module _ (h : Header) (rows : List Row) (used : ℕ) (o : List ℕ) (q : Plan h 
     pub two : digests ≤ extents
     pub three : extents ≤ end
     pub within : end ≤ length o
+    pub footer : 24 ≤ length o
 
   pub places : Places
   places = record {
-    one = omega (arith, q .digests);
-    two = omega (arith, q .extents);
-    three = omega (arith, q .file);
+    one = omega (arith, lie .digests);
+    two = omega (arith, lie .extents);
+    three = omega (arith, lie .file);
     within = omega arith;
+    footer = omega (arith, lie .file);
   }
 
   front : o ≡ take records o ++ drop records o
@@ -70,17 +77,17 @@ module _ (h : Header) (rows : List Row) (used : ℕ) (o : List ℕ) (q : Plan h 
   front-long = let p = places in length-take-le records o (omega (arith, p .one, p .two, p .three, p .within))
 
   -- the first stretch
-  pub records-room : length (take (digests - records) (drop records o)) ≡ 48 * length rows
+  pub records-room : length (take (digests - records) (drop records o)) ≡ sh .«record_size» * length rows
   records-room =
       let p = places in
-      part-long o (take records o) o records digests front front-long (p .one) (omega (arith, p .two, p .three, p .within)) ∙ omega (arith, q .digests)
+      part-long o (take records o) o records digests front front-long (p .one) (omega (arith, p .two, p .three, p .within)) ∙ omega (arith, lie .digests)
 
-  module _ (a : List ℕ) (ea : a ≡ recordsBytes v3 (h .domain) rows digests extents) where
+  module _ (a : List ℕ) (ea : a ≡ recordsBytes sh (h .domain) rows digests extents) where
     abbrev w₁ : List ℕ
     w₁ = putMid records (digests - records) o a
 
     a-long : length a ≡ digests - records
-    a-long = ap length ea ∙ records-long v3 v3-shaped (h .domain) rows digests extents ∙ omega (arith, q .digests)
+    a-long = ap length ea ∙ records-long sh wf (h .domain) rows digests extents ∙ omega (arith, lie .digests)
 
     done₁ : w₁ ≡ (take records o ++ a) ++ drop digests o
     done₁ = grown o (take records o) a o records digests front front-long (places .one)
@@ -93,14 +100,14 @@ module _ (h : Header) (rows : List Row) (used : ℕ) (o : List ℕ) (q : Plan h 
     digests-room =
         let p = places in
         part-long o (take records o ++ a) w₁ digests extents done₁ long₁ (p .two) (omega (arith, p .three, p .within))
-        ∙ rw (q .filled) (omega (arith, q .extents, section-long rows))
+        ∙ rw (q .filled) (omega (arith, lie .extents, section-long rows))
 
     module _ (b : List ℕ) (eb : b ≡ digestSection rows) where
       abbrev w₂ : List ℕ
       w₂ = putMid digests (extents - digests) w₁ b
 
       b-long : length b ≡ extents - digests
-      b-long = ap length eb ∙ omega (arith, q .extents)
+      b-long = ap length eb ∙ omega (arith, lie .extents)
 
       done₂ : w₂ ≡ ((take records o ++ a) ++ b) ++ drop extents o
       done₂ = grown o (take records o ++ a) b w₁ digests extents done₁ long₁ (places .two)
@@ -113,35 +120,36 @@ module _ (h : Header) (rows : List Row) (used : ℕ) (o : List ℕ) (q : Plan h 
       extents-room =
           let p = places in
           part-long o ((take records o ++ a) ++ b) w₂ extents end done₂ long₂ (p .three) (p .within)
-          ∙ omega (arith, q .file, q .count, extentBytes-long rows)
+          ∙ omega (arith, lie .file, lie .count, extentBytes-long rows)
 
-      pub sections-done : (c : List ℕ) → c ≡ extentBytes rows → putMid extents (end - extents) w₂ c ≡ put o records (sectionsUnder h rows)
+      pub sections-done : (c : List ℕ) → c ≡ extentBytes rows → putMid extents (end - extents) w₂ c ≡ put o records (sectionsUnder sh h rows)
       unfolding put sectionsUnder
       sections-done c ec =
-          let c-long : length c ≡ end - extents = ap length ec ∙ omega (arith, q .file, q .count, extentBytes-long rows) in
+          let c-long : length c ≡ end - extents = ap length ec ∙ omega (arith, lie .file, lie .count, extentBytes-long rows) in
           let whole : List ℕ = a ++ (b ++ c) in
           let e : records + length whole ≡ end = omega (arith, length-append a (b ++ c), length-append b c, a-long, b-long, c-long, places) in
           let f : ((take records o ++ a) ++ b) ++ c ≡ take records o ++ whole = append-assoc (take records o ++ a) b c ∙ append-assoc (take records o) a (b ++ c) in
-          let g : whole ≡ recordsBytes v3 (h .domain) rows digests extents ++ (digestSection rows ++ extentBytes rows) = rw (ea, eb, ec) in
+          let g : whole ≡ recordsBytes sh (h .domain) rows digests extents ++ (digestSection rows ++ extentBytes rows) = rw (ea, eb, ec) in
           grown o ((take records o ++ a) ++ b) c w₂ extents end done₂ long₂ (places .three)
           ∙ ap (λ (t : List ℕ). t ++ drop end o) f
           ∙ rw (← e, g)
 
 -- ---- what the writers of the sections are told
 
-module _ (h : Header) (kind : Kind) (bytes list extents numbers : List ℕ) (used n : ℕ) (q : Plan h (itemRows kind bytes list extents numbers) used n) where
+module _ (sh : Shape) (wf : Shaped sh) (h : Header) (kind : Kind) (bytes list extents numbers : List ℕ) (used n : ℕ)
+    (q : Plan sh h (itemRows kind bytes list extents numbers) used n) where
   rows-many : length (itemRows kind bytes list extents numbers) ≡ length numbers
   rows-many = length-map numbers (itemRow kind bytes list extents)
 
   pub near : Near h numbers
   near = record {
     few = omega (arith, q .few, rows-many);
-    digests = omega (arith, q .extents, q .file, q .limit);
-    extents = omega (arith, q .file, q .limit);
+    digests = omega (arith, lies wf q .extents, lies wf q .file, q .limit);
+    extents = omega (arith, lies wf q .file, q .limit);
   }
 
-  pub many : 48 * length (itemRows kind bytes list extents numbers) ≡ 48 * length numbers
-  many = ap (λ (m : ℕ). 48 * m) rows-many
+  pub many : sh .«record_size» * length (itemRows kind bytes list extents numbers) ≡ sh .«record_size» * length numbers
+  many = ap (λ (m : ℕ). sh .«record_size» * m) rows-many
 
   pub filled : used ≡ length (itemDigests kind bytes list numbers)
   filled = q .filled ∙ ap length (sym (digests-same kind bytes list extents numbers))

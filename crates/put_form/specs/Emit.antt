@@ -1,11 +1,11 @@
 -- What the writers of a segment tell each other.
 --   Moderate          sizes whose sums pass no number's width
 --   headerFor         the header over so many bloom bytes and records that come to some sizes
---   Plan              a header whose sections are those of rows, in a file of so many bytes
+--   Plan              a header of rows' form, which has so many bytes of digests, and is a file of so many bytes
 --   sectionsUnder, bodyUnder   the three sections of rows, and everything before the footer, under such a header
 --   Left, Emitted       what write and tidy answer and leave of a form and an output
 -- Assumes nothing: these are definitions.
-use Prim.Native.Nat.{ℕ, _+_, _*_, _≤_}
+use Prim.Native.Nat.{ℕ, _+_, _≤_}
 use mathlib.Core.Path.{_≡_}
 use mathlib.Core.List.{List, _++_}
 use lib.ListN.{length}
@@ -14,9 +14,23 @@ use Rattle.answer.specs.declared.Verdict.the-variants.{Accepted}
 use Rattle.answer.specs.declared.Written.{Written}
 use Rattle.segment.specs.declared.header.Header.{Header}
 use Rattle.segment.specs.declared.header.Heading.{Heading}
-use Rattle.segment.specs.Format.{v3, footerSize, extentSize, fileLimit, recordLimit, recordsOffset, digestsOffset, extentsOffset, extentCount}
+use Rattle.segment.specs.declared.shape.Shape.{Shape}
+use Rattle.segment.specs.Format.{fileLimit, recordLimit, digestsOffset, extentsOffset}
 use Rattle.segment.specs.Meaning.{Row}
-use Rattle.segment.specs.Tidy.{packed, headerFields, headerOver, recordsBytes, digestBytes, digestSection, lacking, extentBytes, extentTotal, settled, outputAfter}
+use Rattle.segment.specs.Tidy.{
+  packed,
+  headerFields,
+  headerOver,
+  recordsBytes,
+  digestBytes,
+  digestSection,
+  lacking,
+  extentBytes,
+  formHeader,
+  formOf,
+  settled,
+  outputAfter,
+}
 use Rattle.put_item.specs.declared.Sizes.{Sizes}
 
 -- for each of 65,536 records at most 1,024 bytes of digest and 2^32 extents
@@ -27,24 +41,24 @@ pub record Moderate (bloom count : ℕ) (s : Sizes) : Type 0 where
   pub extents : s .extents ≤ 281474976710656
   pub visibility : s .visibility ≤ 1
 
-unfoldable pub headerFor : Heading → ℕ → ℕ → Sizes → Header
-headerFor t bloom count s = headerOver v3 t bloom count (s .digests + lacking (s .digests)) (s .extents) (s .visibility)
+unfoldable pub headerFor : Shape → Heading → ℕ → ℕ → Sizes → Header
+headerFor sh t bloom count s = headerOver sh t bloom count (s .digests + lacking (s .digests)) (s .extents) (s .visibility)
 
-pub record Plan (h : Header) (rows : List Row) (used n : ℕ) : Type 0 where
+pub record Plan (sh : Shape) (h : Header) (rows : List Row) (used n : ℕ) : Type 0 where
+  pub heading : Heading
+  pub bloom : List ℕ
+  pub header : h ≡ formHeader sh heading (length bloom) rows
+  pub file : n ≡ length (formOf sh heading bloom rows)
   pub few : length rows ≤ recordLimit
-  pub digests : digestsOffset h ≡ recordsOffset h + 48 * length rows
-  pub extents : extentsOffset h ≡ digestsOffset h + length (digestSection rows)
-  pub count : extentCount h ≡ extentTotal rows
   pub filled : used ≡ length (digestBytes rows)
-  pub file : n ≡ extentsOffset h + extentSize * extentCount h + footerSize
   pub limit : n ≤ fileLimit
 
-unfoldable pub sectionsUnder : Header → List Row → List ℕ
-sectionsUnder h rows =
-    recordsBytes v3 (h .domain) rows (digestsOffset h) (extentsOffset h) ++ (digestSection rows ++ extentBytes rows)
+unfoldable pub sectionsUnder : Shape → Header → List Row → List ℕ
+sectionsUnder sh h rows =
+    recordsBytes sh (h .domain) rows (digestsOffset h) (extentsOffset h) ++ (digestSection rows ++ extentBytes rows)
 
-unfoldable pub bodyUnder : Header → List ℕ → List Row → List ℕ
-bodyUnder h bloom rows = packed (headerFields h) ++ (bloom ++ sectionsUnder h rows)
+unfoldable pub bodyUnder : Shape → Header → List ℕ → List Row → List ℕ
+bodyUnder sh h bloom rows = packed (headerFields h) ++ (bloom ++ sectionsUnder sh h rows)
 
 -- what is left where a verdict comes before the size: the first refusal and the output as it was, or the form and the bytes that stood after it
 pub record Left (v : Verdict) (form out after : List ℕ) (w : Written) : Type 0 where

@@ -4,7 +4,8 @@ ghost use mathlib.Core.Path.{_≡_};
 ghost use Prim.Native.Nat.{_+_, _≤_};
 ghost use lib.ListN.{length};
 ghost use Rattle.numbers.specs.Numbers.{put};
-ghost use Rattle.segment.specs.Format.{v3, recordsOffset, recordLimit};
+ghost use Rattle.segment.specs.Format.{headerSize, recordsOffset, recordLimit};
+ghost use Rattle.segment.specs.Shapes.{Shaped};
 ghost use Rattle.segment.specs.Tidy.{lacking, formHeader, formOf};
 ghost use Rattle.put_item.specs.Lines.{itemRows, Lines};
 ghost use Rattle.put_form.specs.Emit.{Moderate, headerFor, Plan, sectionsUnder, bodyUnder, Emitted};
@@ -19,7 +20,7 @@ use segment::footer::Footer;
 use segment::header;
 use segment::header::Header;
 use segment::header::Heading;
-use segment::record::Record;
+use segment::shape::Shape;
 
 // A number of bytes with the zeros that it lacks to a multiple of 8.
 fn padded(n: u64) -> u64
@@ -30,17 +31,18 @@ fn padded(n: u64) -> u64
 }
 
 // The header over so many bloom bytes and records that come to some sizes.
-fn header_for(t: Heading, bloom: u64, count: u64, s: Sizes) -> Header
+fn header_for(sh: Shape, t: Heading, bloom: u64, count: u64, s: Sizes) -> Header
+    requires { ⌜ Shaped sh ⌝ }
     requires { ⌜ Moderate bloom count s ⌝ }
-    ensures { λ r. ⌜ r ≡ headerFor t bloom count s ⌝ }
+    ensures { λ r. ⌜ r ≡ headerFor sh t bloom count s ⌝ }
 {
     let records = Header::LONG + bloom;
-    let digests = records + Record::LONG * count;
+    let digests = records + sh.record_size as u64 * count;
     let size = padded(s.digests);
     let place = header::bloom_place(bloom);
     Header {
-        magic: Header::MAGIC,
-        version: Header::VERSION,
+        magic: sh.magic,
+        version: sh.version,
         shard: t.shard,
         header_size: Header::STATED,
         snapshot_min: t.snapshot_min,
@@ -63,6 +65,7 @@ fn header_for(t: Heading, bloom: u64, count: u64, s: Sizes) -> Header
 
 // Records, digests and extents, each lent its own stretch of the output: from r, from d and from x on.
 fn put_sections(
+    sh: Shape,
     h: Header,
     used: usize,
     kind: Kind,
@@ -73,21 +76,23 @@ fn put_sections(
     out: &mut [u8],
 )
     requires { ⌜ Lines kind (now bytes) (now list) (now extents) (now numbers) ⌝ }
-    requires { ⌜ Plan h (itemRows kind (now bytes) (now list) (now extents) (now numbers)) used (length (now out)) ⌝ }
+    requires { ⌜ Shaped sh ⌝ }
+    requires { ⌜ Plan sh h (itemRows kind (now bytes) (now list) (now extents) (now numbers)) used (length (now out)) ⌝ }
     ensures { λ _. ⌜ now (out .exit) ≡ put (now (out .entry)) (recordsOffset h)
-        (sectionsUnder h (itemRows kind (now (bytes .entry)) (now (list .entry)) (now (extents .entry)) (now (numbers .entry)))) ⌝ }
+        (sectionsUnder sh h (itemRows kind (now (bytes .entry)) (now (list .entry)) (now (extents .entry)) (now (numbers .entry)))) ⌝ }
 {
     let r = h.records_offset.0 as usize;
     let d = h.digests_offset.0 as usize;
     let x = h.extents_offset.0 as usize;
     let end = out.len() - Footer::SIZE;
-    put_sections::put_records(h, kind, bytes, list, extents, numbers, &mut out[r..d]);
+    put_sections::put_records(sh, h, kind, bytes, list, extents, numbers, &mut out[r..d]);
     put_sections::put_digest_section(kind, bytes, list, numbers, used, &mut out[d..x]);
     put_sections::put_extents(kind, bytes, list, extents, numbers, &mut out[x..end]);
 }
 
 // Everything before the footer.
 fn put_body(
+    sh: Shape,
     h: Header,
     bloom: &[u8],
     used: usize,
@@ -99,18 +104,20 @@ fn put_body(
     out: &mut [u8],
 )
     requires { ⌜ Lines kind (now bytes) (now list) (now extents) (now numbers) ⌝ }
-    requires { ⌜ Plan h (itemRows kind (now bytes) (now list) (now extents) (now numbers)) used (length (now out)) ⌝ }
-    requires { ⌜ recordsOffset h ≡ 112 + length (now bloom) ⌝ }
+    requires { ⌜ Shaped sh ⌝ }
+    requires { ⌜ Plan sh h (itemRows kind (now bytes) (now list) (now extents) (now numbers)) used (length (now out)) ⌝ }
+    requires { ⌜ recordsOffset h ≡ headerSize + length (now bloom) ⌝ }
     ensures { λ _. ⌜ now (out .exit) ≡ put (now (out .entry)) 0
-        (bodyUnder h (now (bloom .entry)) (itemRows kind (now (bytes .entry)) (now (list .entry)) (now (extents .entry)) (now (numbers .entry)))) ⌝ }
+        (bodyUnder sh h (now (bloom .entry)) (itemRows kind (now (bytes .entry)) (now (list .entry)) (now (extents .entry)) (now (numbers .entry)))) ⌝ }
 {
     put_fields::put_header(h, out);
     put_sections::copy_bytes(bloom, Header::SIZE, out);
-    put_sections(h, used, kind, bytes, list, extents, numbers, out);
+    put_sections(sh, h, used, kind, bytes, list, extents, numbers, out);
 }
 
 // The whole form, into an output that is as long as it.
 fn put_form(
+    sh: Shape,
     t: Heading,
     h: Header,
     bloom: &[u8],
@@ -123,12 +130,13 @@ fn put_form(
     out: &mut [u8],
 )
     requires { ⌜ Lines kind (now bytes) (now list) (now extents) (now numbers) ⌝ }
-    requires { ⌜ Plan h (itemRows kind (now bytes) (now list) (now extents) (now numbers)) used (length (now out)) ⌝ }
-    requires { ⌜ h ≡ formHeader v3 t (length (now bloom)) (itemRows kind (now bytes) (now list) (now extents) (now numbers)) ⌝ }
-    ensures { λ _. ⌜ now (out .exit) ≡ formOf v3 t (now (bloom .entry))
+    requires { ⌜ Shaped sh ⌝ }
+    requires { ⌜ Plan sh h (itemRows kind (now bytes) (now list) (now extents) (now numbers)) used (length (now out)) ⌝ }
+    requires { ⌜ h ≡ formHeader sh t (length (now bloom)) (itemRows kind (now bytes) (now list) (now extents) (now numbers)) ⌝ }
+    ensures { λ _. ⌜ now (out .exit) ≡ formOf sh t (now (bloom .entry))
         (itemRows kind (now (bytes .entry)) (now (list .entry)) (now (extents .entry)) (now (numbers .entry))) ⌝ }
 {
-    put_body(h, bloom, used, kind, bytes, list, extents, numbers, out);
+    put_body(sh, h, bloom, used, kind, bytes, list, extents, numbers, out);
     let body = out.len() - Footer::SIZE;
     let checksum = crc64::crc64_plain(&out[..body]);
     let f = Footer {
@@ -142,6 +150,7 @@ fn put_form(
 // The form of the items in the order of their numbers, if it keeps to the limit and fits; else the output is left alone.
 // Bloom bytes that pass the limit by themselves are refused first, so that no sum below overflows.
 pub fn emit(
+    sh: Shape,
     t: Heading,
     bloom: &[u8],
     kind: Kind,
@@ -152,9 +161,10 @@ pub fn emit(
     out: &mut [u8],
 ) -> Written
     requires { ⌜ Lines kind (now bytes) (now list) (now extents) (now numbers) ⌝ }
+    requires { ⌜ Shaped sh ⌝ }
     requires { ⌜ length (now numbers) ≤ recordLimit ⌝ }
     ensures { λ r. ⌜ Emitted
-        (formOf v3 t (now (bloom .entry)) (itemRows kind (now (bytes .entry)) (now (list .entry)) (now (extents .entry)) (now (numbers .entry))))
+        (formOf sh t (now (bloom .entry)) (itemRows kind (now (bytes .entry)) (now (list .entry)) (now (extents .entry)) (now (numbers .entry))))
         (now (out .entry)) (now (out .exit)) r ⌝ }
 {
     let size = bloom.len() as u64;
@@ -162,7 +172,7 @@ pub fn emit(
         return Written::Refused(Refusal(Rule::Large, 0));
     }
     let s = put_item::measure(kind, bytes, list, numbers);
-    let h = header_for(t, size, numbers.len() as u64, s);
+    let h = header_for(sh, t, size, numbers.len() as u64, s);
     let n = h.extents_offset.0 + Extent::LONG * h.extent_count + Footer::LONG;
     if segment::LIMIT < n {
         return Written::Refused(Refusal(Rule::Large, 0));
@@ -172,6 +182,7 @@ pub fn emit(
     }
     let end = n as usize;
     put_form(
+        sh,
         t,
         h,
         bloom,

@@ -11,12 +11,12 @@ pub put-form-spec : {M : Type 1} → statement M
 put-form-spec =
     tie.close
     (tie.spec
-    (λ c κs. let start = c .before .before .before .before .before .before .before in let a = start .args in (start .pre .0, (start .pre .1 .0, records-at (a .t) (a .h) (a .bloom .now) _ _ (a .out .now) (start .pre .1 .0) (start .pre .1 .1))))
-    (λ c. let put = c .before .before in let start = put .before .before .before .before .before .before .before .before in let a = start .args in omega (arith, body-room (a .t) (a .h) (a .bloom .now) _ _ (a .out .now) (start .pre .1 .0) (start .pre .1 .1) _ (put .put-body .ensures)))
+    (λ c κs. let start = c .before .before .before .before .before .before .before in let a = start .args in (start .pre .0, (start .pre .1 .0, (start .pre .1 .1 .0, records-at _ (start .pre .1 .0) (a .t) (a .h) (a .bloom .now) _ _ (a .out .now) (start .pre .1 .1 .0) (start .pre .1 .1 .1)))))
+    (λ c. let put = c .before .before in let start = put .before .before .before .before .before .before .before .before in let a = start .args in omega (arith, body-room _ (start .pre .1 .0) (a .t) (a .h) (a .bloom .now) _ _ (a .out .now) (start .pre .1 .1 .0) (start .pre .1 .1 .1) _ (put .put-body .ensures)))
     (λ c. omega arith)
     (λ c. sym (length-take-le _ _ (omega arith)))
     (λ c κs. search needs)
-    (λ c κs. let put = c .before .before .before .before .before in let start = put .before .before .before .before .before .before .before .before in let a = start .args in omega (arith, body-room (a .t) (a .h) (a .bloom .now) _ _ (a .out .now) (start .pre .1 .0) (start .pre .1 .1) _ (put .put-body .ensures)))
+    (λ c κs. let put = c .before .before .before .before .before in let start = put .before .before .before .before .before .before .before .before in let a = start .args in omega (arith, body-room _ (start .pre .1 .0) (a .t) (a .h) (a .bloom .now) _ _ (a .out .now) (start .pre .1 .1 .0) (start .pre .1 .1 .1) _ (put .put-body .ensures)))
     (λ c. search needs)
     (λ c. let ended = c .before .before in let summed = ended .before .before in let put = summed .before .before .before .before in let start = put .before .before .before .before .before .before .before .before in let a = start .args in
-    form-done (a .t) (a .h) (a .bloom .now) _ _ (a .out .now) (start .pre .1 .0) (start .pre .1 .1) _ (put .put-body .ensures) _ _ (summed .crc64-plain .ensures) (ended .put-footer .ensures)))
+    form-done _ (start .pre .1 .0) (a .t) (a .h) (a .bloom .now) _ _ (a .out .now) (start .pre .1 .1 .0) (start .pre .1 .1 .1) _ (put .put-body .ensures) _ _ (summed .crc64-plain .ensures) (ended .put-footer .ensures)))
