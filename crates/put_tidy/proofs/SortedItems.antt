@@ -6,7 +6,7 @@ use mathlib.Core.List.{List}
 use lib.ListN.{length}
 use Rattle.answer.specs.declared.Written.{Written}
 use Rattle.segment.specs.declared.header.Heading.{Heading}
-use Rattle.segment.specs.Format.{v3}
+use Rattle.segment.specs.declared.shape.Shape.{Shape}
 use Rattle.lists.specs.Lists.{countFrom}
 use Rattle.segment.specs.Tidy.{formOf, tidyForm}
 use Rattle.key.specs.declared.Kind.{Kind}
@@ -27,13 +27,13 @@ module _ (kind : Kind) (bytes list extents : List ℕ) (n : ℕ) where
     pub sorted-lines : AllLines kind bytes list extents n → Lines kind bytes list extents numbers
     sorted-lines a = sorted-each kind bytes list n hints numbers s (Line kind bytes list extents) (a .each)
 
-    sorted-form : (t : Heading) (bloom : List ℕ) → formOf v3 t bloom (itemRows kind bytes list extents numbers) ≡ itemsForm t bloom kind bytes list extents n
+    sorted-form : (sh : Shape) (t : Heading) (bloom : List ℕ) → formOf sh t bloom (itemRows kind bytes list extents numbers) ≡ itemsForm sh t bloom kind bytes list extents n
     unfolding itemsForm tidyForm
-    sorted-form t bloom = ap (formOf v3 t bloom) (ap (itemRows kind bytes list extents) (s .sorted) ∙ rows-sorted kind bytes list extents (countFrom 0 n))
+    sorted-form sh t bloom = ap (formOf sh t bloom) (ap (itemRows kind bytes list extents) (s .sorted) ∙ rows-sorted kind bytes list extents (countFrom 0 n))
 
-    pub sorted-wrote : (t : Heading) (bloom out after : List ℕ) (w : Written) → Emitted (formOf v3 t bloom (itemRows kind bytes list extents numbers)) out after w
-        → Emitted (itemsForm t bloom kind bytes list extents n) out after w
-    sorted-wrote t bloom out after w h = subst (λ (f : List ℕ). Emitted f out after w) (sorted-form t bloom) h
+    pub sorted-wrote : (sh : Shape) (t : Heading) (bloom out after : List ℕ) (w : Written) → Emitted (formOf sh t bloom (itemRows kind bytes list extents numbers)) out after w
+        → Emitted (itemsForm sh t bloom kind bytes list extents n) out after w
+    sorted-wrote sh t bloom out after w h = subst (λ (f : List ℕ). Emitted f out after w) (sorted-form sh t bloom) h
 
 -- ---- the front of an array of m numbers, lent for n of them
 
@@ -41,6 +41,6 @@ module _ (m n : ℕ) (h : n ≤ m) (kind : Kind) (bytes list extents : List ℕ)
   pub lent-lines : AllLines kind bytes list extents n → AllLines kind bytes list extents (length (front m n))
   lent-lines a = rw (front-long m n h) a
 
-  pub lent-wrote : (t : Heading) (bloom out after : List ℕ) (w : Written) → Emitted (itemsForm t bloom kind bytes list extents (length (front m n))) out after w
-      → Emitted (itemsForm t bloom kind bytes list extents n) out after w
-  lent-wrote t bloom out after w x = rw (front-long m n h) at x
+  pub lent-wrote : (sh : Shape) (t : Heading) (bloom out after : List ℕ) (w : Written) → Emitted (itemsForm sh t bloom kind bytes list extents (length (front m n))) out after w
+      → Emitted (itemsForm sh t bloom kind bytes list extents n) out after w
+  lent-wrote sh t bloom out after w x = rw (front-long m n h) at x

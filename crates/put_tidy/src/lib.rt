@@ -4,17 +4,20 @@ ghost use mathlib.Core.Path.{_≡_};
 ghost use Prim.Native.Nat.{_≤_};
 ghost use lib.ListN.{length};
 ghost use Rattle.segment.specs.Format.{recordLimit};
+ghost use Rattle.segment.specs.Shapes.{Shaped};
 ghost use Rattle.put_form.specs.Emit.{Emitted};
 ghost use Rattle.put_tidy.specs.ItemsForm.{AllLines, itemsForm};
 use answer::Written;
 use key::Kind;
 use segment::header::Heading;
+use segment::shape::Shape;
 
 // As many items as a segment can have.
 const MOST: usize = segment::MOST_RECORDS as usize;
 
 // As many items as there are numbers, written in tidy order.
 fn arrange(
+    sh: Shape,
     t: Heading,
     bloom: &[u8],
     kind: Kind,
@@ -26,20 +29,22 @@ fn arrange(
     spare: &mut [u16],
     out: &mut [u8],
 ) -> Written
+    requires { ⌜ Shaped sh ⌝ }
     requires { ⌜ AllLines kind (now bytes) (now list) (now extents) (length (now numbers)) ⌝ }
     requires { ⌜ length (now hints) ≡ length (now numbers) ⌝ }
     requires { ⌜ length (now numbers) ≤ length (now spare) ⌝ }
     requires { ⌜ length (now numbers) ≤ recordLimit ⌝ }
     ensures { λ r. ⌜ Emitted
-        (itemsForm t (now (bloom .entry)) kind (now (bytes .entry)) (now (list .entry)) (now (extents .entry)) (length (now (numbers .entry))))
+        (itemsForm sh t (now (bloom .entry)) kind (now (bytes .entry)) (now (list .entry)) (now (extents .entry)) (length (now (numbers .entry))))
         (now (out .entry)) (now (out .exit)) r ⌝ }
 {
     key_sort::sorted(kind, bytes, list, hints, numbers, spare);
-    put_form::emit(t, bloom, kind, bytes, list, extents, numbers, out)
+    put_form::emit(sh, t, bloom, kind, bytes, list, extents, numbers, out)
 }
 
 // With hints and numbers for 256 items.
 fn arrange_few(
+    sh: Shape,
     t: Heading,
     bloom: &[u8],
     kind: Kind,
@@ -49,15 +54,17 @@ fn arrange_few(
     n: usize,
     out: &mut [u8],
 ) -> Written
+    requires { ⌜ Shaped sh ⌝ }
     requires { ⌜ AllLines kind (now bytes) (now list) (now extents) n ⌝ }
     requires { ⌜ n ≤ 256 ⌝ }
-    ensures { λ r. ⌜ Emitted (itemsForm t (now (bloom .entry)) kind (now (bytes .entry)) (now (list .entry)) (now (extents .entry)) n)
+    ensures { λ r. ⌜ Emitted (itemsForm sh t (now (bloom .entry)) kind (now (bytes .entry)) (now (list .entry)) (now (extents .entry)) n)
         (now (out .entry)) (now (out .exit)) r ⌝ }
 {
     let mut hints = [0u32; 256];
     let mut numbers = [0u16; 256];
     let mut spare = [0u16; 256];
     arrange(
+        sh,
         t,
         bloom,
         kind,
@@ -73,6 +80,7 @@ fn arrange_few(
 
 // With hints and numbers for as many items as a segment can have.
 fn arrange_many(
+    sh: Shape,
     t: Heading,
     bloom: &[u8],
     kind: Kind,
@@ -82,15 +90,17 @@ fn arrange_many(
     n: usize,
     out: &mut [u8],
 ) -> Written
+    requires { ⌜ Shaped sh ⌝ }
     requires { ⌜ AllLines kind (now bytes) (now list) (now extents) n ⌝ }
     requires { ⌜ n ≤ recordLimit ⌝ }
-    ensures { λ r. ⌜ Emitted (itemsForm t (now (bloom .entry)) kind (now (bytes .entry)) (now (list .entry)) (now (extents .entry)) n)
+    ensures { λ r. ⌜ Emitted (itemsForm sh t (now (bloom .entry)) kind (now (bytes .entry)) (now (list .entry)) (now (extents .entry)) n)
         (now (out .entry)) (now (out .exit)) r ⌝ }
 {
     let mut hints = [0u32; MOST];
     let mut numbers = [0u16; MOST];
     let mut spare = [0u16; MOST];
     arrange(
+        sh,
         t,
         bloom,
         kind,
@@ -106,6 +116,7 @@ fn arrange_many(
 
 // The tidy form of n items, if it keeps to the limit and fits the output; else the output is left alone.
 pub fn put_tidy(
+    sh: Shape,
     t: Heading,
     bloom: &[u8],
     kind: Kind,
@@ -115,13 +126,14 @@ pub fn put_tidy(
     n: usize,
     out: &mut [u8],
 ) -> Written
+    requires { ⌜ Shaped sh ⌝ }
     requires { ⌜ AllLines kind (now bytes) (now list) (now extents) n ⌝ }
     requires { ⌜ n ≤ recordLimit ⌝ }
-    ensures { λ r. ⌜ Emitted (itemsForm t (now (bloom .entry)) kind (now (bytes .entry)) (now (list .entry)) (now (extents .entry)) n)
+    ensures { λ r. ⌜ Emitted (itemsForm sh t (now (bloom .entry)) kind (now (bytes .entry)) (now (list .entry)) (now (extents .entry)) n)
         (now (out .entry)) (now (out .exit)) r ⌝ }
 {
     if n <= 256 {
-        return arrange_few(t, bloom, kind, bytes, list, extents, n, out);
+        return arrange_few(sh, t, bloom, kind, bytes, list, extents, n, out);
     }
-    arrange_many(t, bloom, kind, bytes, list, extents, n, out)
+    arrange_many(sh, t, bloom, kind, bytes, list, extents, n, out)
 }

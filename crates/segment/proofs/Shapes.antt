@@ -1,12 +1,13 @@
 -- What a shape gives whoever reads or writes its records.
 --   v3-shaped       version 3 has what is asked of a shape
 --   shaped-least, shaped-most, shaped-divides   a record's size
+--   shaped-limit    a total
 --   records-fit     the bytes of a segment's records
 --   fields-inside, total-inside   in a record that lies in the segment, the fields that every version has and the total lie there too
 -- Assumes nothing.
 use Prim.Native.Nat.{ℕ, _+_, _*_, _%_, _≤_, _<_}
 use mathlib.Core.Path.{_≡_, refl, ap, subst, _∙_}
-use mathlib.Core.Bool.{Bool, true, false}
+use mathlib.Core.Bool.{Bool, true, false, cond}
 use mathlib.Core.List.{List}
 use native.Mathlib.Nat.{mul-le-mul}
 use native.Mathlib.Omega.{arith}
@@ -36,6 +37,12 @@ module _ (sh : Shape) (w : Shaped sh) where
 
   pub shaped-divides : (n : ℕ) → (sh .«record_size» * n) % 8 ≡ 0
   shaped-divides n = by-size (λ e. rw e (omega arith)) (λ e. rw e (omega arith))
+
+  pub shaped-limit : sh .«total_limit» < 18446744073709551616
+  shaped-limit =
+      by-test (sh .«total_wide»)
+      (λ e. subst (λ (b : Bool). sh .«total_limit» < cond b 18446744073709551616 4294967296) e (w .limit))
+      (λ e. let l : sh .«total_limit» < 4294967296 = subst (λ (b : Bool). sh .«total_limit» < cond b 18446744073709551616 4294967296) e (w .limit) in omega arith)
 
   -- as many records as a segment may have are no more bytes than a number can say
   pub records-fit : (n : ℕ) → n ≤ 65536 → sh .«record_size» * n < 18446744073709551616

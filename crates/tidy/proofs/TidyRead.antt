@@ -14,7 +14,9 @@ use Rattle.answer.specs.declared.Written.{Written}
 use Rattle.answer.specs.declared.Written.the-variants.{Refused as NotWritten}
 use Rattle.segment.specs.declared.header.Header.{Header}
 use Rattle.segment.specs.declared.header.Heading.{Heading}
-use Rattle.segment.specs.Format.{v3, headerOf, recordOf, recordNo, recordCount, recordsOffset, bloomSize}
+use Rattle.segment.specs.declared.shape.Shape.{Shape}
+use Rattle.segment.specs.Format.{v3, headerOf, recordAt, recordOf, recordNo, recordCount, recordsOffset, bloomSize}
+use Rattle.segment.proofs.Shapes.{shaped-limit}
 use Rattle.table.specs.Table.{goodTable, tableVerdict}
 use Rattle.segment.specs.Check.{digestIn, segmentVerdict, checked}
 use Rattle.segment.specs.Meaning.{rowOf, rowNo, rowsOf, headingOf, meaningOf}
@@ -30,20 +32,20 @@ use Rattle.put_tidy.proofs.Left.{left-under, left-outcome}
 
 -- ---- its records
 
-module _ (s : List ℕ) (h : Header) (v : Readable v3 s h) where
-  record-line : Bytes s → (list extents : List ℕ) (k : ℕ) → k < recordCount h → Line (Records (recordsOffset h)) s list extents k
+module _ (sh : Shape) (s : List ℕ) (h : Header) (v : Readable sh s h) where
+  record-line : Bytes s → (list extents : List ℕ) (k : ℕ) → k < recordCount h → Line (Records (recordsOffset h) sh) s list extents k
   unfolding itemEntry recordEntry Held itemTotal extentsOfEntry itemExtents recordNo recordOf
   record-line b list extents k l =
       let r = v .each k l in
       record {
         counted = record {
-          item = items s list h v .each k l;
+          item = items sh s list h v .each k l;
           narrow = record {
             hash = r .hash;
             digest = r .short;
             visibility = r .marks .visibility;
             imported = r .marks .imported;
-            source = num-fits 4 s (recordsOffset h + 48 * k + 40) b;
+            source = num-fits 4 s (recordAt sh h k + 40) b;
             gone = r .marks .flags;
             extents = omega (arith, r .extents, v .laid .most);
           };
@@ -52,10 +54,10 @@ module _ (s : List ℕ) (h : Header) (v : Readable v3 s h) where
         none = r .none;
         held = r .extents;
         total = r .total;
-        fits = omega (arith, r .limit);
+        fits = omega (arith, r .limit, shaped-limit sh (v .laid .shaped));
       }
 
-  pub read-lines : Bytes s → (list extents : List ℕ) → AllLines (Records (recordsOffset h)) s list extents (recordCount h)
+  pub read-lines : Bytes s → (list extents : List ℕ) → AllLines (Records (recordsOffset h) sh) s list extents (recordCount h)
   read-lines b list extents = record { each = record-line b list extents }
 
   pub bloom-within : 112 + bloomSize h ≤ length s
@@ -63,20 +65,20 @@ module _ (s : List ℕ) (h : Header) (v : Readable v3 s h) where
 
 -- ---- its tidy form
 
-same-form : (s list extents : List ℕ)
-    → itemsForm (headingOf s (headerOf s)) (take (bloomSize (headerOf s)) (drop 112 s)) (Records (recordsOffset (headerOf s))) s list extents (recordCount (headerOf s))
-    ≡ tidyForm v3 (meaningOf v3 s)
+same-form : (sh : Shape) (s list extents : List ℕ)
+    → itemsForm sh (headingOf s (headerOf s)) (take (bloomSize (headerOf s)) (drop 112 s)) (Records (recordsOffset (headerOf s)) sh) s list extents (recordCount (headerOf s))
+    ≡ tidyForm sh (meaningOf sh s)
 unfolding itemsForm meaningOf rowsOf rowNo rowOf recordNo itemRow rowOfEntry itemEntry recordEntry extentsOfEntry itemExtents digestIn
-same-form s list extents = refl
+same-form sh s list extents = refl
 
-pub read-form : (s list extents : List ℕ) (h : Header) (t : Heading) → h ≡ headerOf s → t ≡ headingOf s h
-    → itemsForm t (take (112 + bloomSize h - 112) (drop 112 s)) (Records (recordsOffset h)) s list extents (recordCount h) ≡ tidyForm v3 (meaningOf v3 s)
-read-form s list extents h t e f =
+pub read-form : (sh : Shape) (s list extents : List ℕ) (h : Header) (t : Heading) → h ≡ headerOf s → t ≡ headingOf s h
+    → itemsForm sh t (take (112 + bloomSize h - 112) (drop 112 s)) (Records (recordsOffset h) sh) s list extents (recordCount h) ≡ tidyForm sh (meaningOf sh s)
+read-form sh s list extents h t e f =
     let n : 112 + bloomSize h - 112 ≡ bloomSize h = omega arith in
-    ap (λ (x : Heading). itemsForm x (take (112 + bloomSize h - 112) (drop 112 s)) (Records (recordsOffset h)) s list extents (recordCount h)) f
-    ∙ ap (λ (k : ℕ). itemsForm (headingOf s h) (take k (drop 112 s)) (Records (recordsOffset h)) s list extents (recordCount h)) n
-    ∙ ap (λ (x : Header). itemsForm (headingOf s x) (take (bloomSize x) (drop 112 s)) (Records (recordsOffset x)) s list extents (recordCount x)) e
-    ∙ same-form s list extents
+    ap (λ (x : Heading). itemsForm sh x (take (112 + bloomSize h - 112) (drop 112 s)) (Records (recordsOffset h) sh) s list extents (recordCount h)) f
+    ∙ ap (λ (k : ℕ). itemsForm sh (headingOf s h) (take k (drop 112 s)) (Records (recordsOffset h) sh) s list extents (recordCount h)) n
+    ∙ ap (λ (x : Header). itemsForm sh (headingOf s x) (take (bloomSize x) (drop 112 s)) (Records (recordsOffset x) sh) s list extents (recordCount x)) e
+    ∙ same-form sh s list extents
 
 -- ---- the table before the rest
 

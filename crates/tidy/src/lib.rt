@@ -3,7 +3,7 @@ ghost use mathlib.Core.Path.{_≡_};
 ghost use mathlib.Core.Bool.{true};
 ghost use Prim.Native.Nat.{_≤_};
 ghost use lib.ListN.{length};
-ghost use Rattle.segment.specs.Format.{v3};
+ghost use Rattle.segment.specs.Format.{v3, leastFile};
 ghost use Rattle.table.specs.Table.{goodTable};
 ghost use Rattle.segment.specs.Check.{segmentVerdict};
 ghost use Rattle.segment.specs.Meaning.{headingOf, meaningOf};
@@ -17,10 +17,11 @@ use key::Kind;
 use segment::footer::Footer;
 use segment::header::Header;
 use segment::header::Heading;
+use segment::shape::Shape;
 
 // The numbers of a segment that its tidy form keeps.
 fn heading_of(seg: &[u8], h: Header) -> Heading
-    requires { ⌜ 136 ≤ length (now seg) ⌝ }
+    requires { ⌜ leastFile ≤ length (now seg) ⌝ }
     ensures { λ r. ⌜ r ≡ headingOf (now (seg .entry)) h ⌝ }
 {
     let f = Footer::at(seg, seg.len() - Footer::SIZE);
@@ -49,9 +50,10 @@ fn tidy_under(pairs: &[u64], seg: &[u8], out: &mut [u8]) -> Written
     let h = Header::of(seg);
     let t = heading_of(seg, h);
     let end = Header::SIZE + h.bloom_size as usize;
-    let records = Kind::Records(h.records_offset.0 as usize);
+    let records = Kind::Records(h.records_offset.0 as usize, Shape::V3);
     let n = h.record_count as usize;
     put_tidy::put_tidy(
+        Shape::V3,
         t,
         &seg[Header::SIZE..end],
         records,

@@ -12,7 +12,10 @@ use Rattle.answer.specs.declared.Rule.the-variants.{Table as TableWrong}
 use Rattle.answer.specs.Answers.{refusal}
 use Rattle.answer.specs.declared.Verdict.the-variants.{Accepted}
 use Rattle.segment.specs.declared.header.Heading.{Heading}
+use Rattle.segment.specs.declared.shape.Shape.{Shape}
 use Rattle.segment.specs.Format.{v3}
+use Rattle.segment.specs.Shapes.{Shaped}
+use Rattle.segment.proofs.Shapes.{shaped-limit}
 use Rattle.table.specs.Table.{goodTable, tableVerdict}
 use Rattle.segment.specs.Tidy.{tidyForm, settled, outcome}
 use Rattle.segment.specs.Write.{Request, entryCount, entryNo, entryRow, entryDigestBytes, requestRules, requestVerdict, requested, wrote, writeOf}
@@ -25,16 +28,16 @@ use Rattle.put_form.specs.Emit.{Left}
 use Rattle.put_tidy.proofs.Left.{left-under, left-outcome}
 use Rattle.write.specs.Seal.{asked}
 
-module _ (pairs bloom entries digests extents : List ℕ) (g : goodTable pairs ≡ true) (a : requestRules v3 pairs (length bloom) entries digests extents ≡ Accepted) where
+module _ (sh : Shape) (w : Shaped sh) (pairs bloom entries digests extents : List ℕ) (g : goodTable pairs ≡ true) (a : requestRules sh pairs (length bloom) entries digests extents ≡ Accepted) where
   entry-line : (k : ℕ) → k < entryCount entries → Line Entries digests entries extents k
   unfolding itemEntry Held itemTotal extentsOfEntry itemExtents
   entry-line k h =
-      let r = request-book v3 pairs entries digests extents (length bloom) .0 a in
+      let r = request-book sh pairs entries digests extents (length bloom) .0 a in
       let e = r .each k h in
       let s = allowed-small pairs (entryNo entries k .«hash_id») (entryNo entries k .«digest_length») g (e .allowed) in
       record {
         counted = record {
-          item = request-items v3 pairs entries digests extents (length bloom) a .each k h;
+          item = request-items sh pairs entries digests extents (length bloom) a .each k h;
           narrow = record {
             hash = s .0;
             digest = s .1;
@@ -49,19 +52,19 @@ module _ (pairs bloom entries digests extents : List ℕ) (g : goodTable pairs �
         none = e .places .goneCount;
         held = omega (arith, e .lists .slices);
         total = refl;
-        fits = omega (arith, e .total .sum);
+        fits = omega (arith, e .total .sum, shaped-limit sh w);
       }
 
   pub entry-lines : AllLines Entries digests entries extents (entryCount entries)
   entry-lines = record { each = entry-line }
 
   pub few-entries : entryCount entries ≤ 65536
-  few-entries = request-book v3 pairs entries digests extents (length bloom) .0 a .few
+  few-entries = request-book sh pairs entries digests extents (length bloom) .0 a .few
 
-pub same-form : (t : Heading) (bloom entries digests extents : List ℕ)
-    → itemsForm t bloom Entries digests entries extents (entryCount entries) ≡ tidyForm v3 (requested (asked t bloom entries digests extents))
+pub same-form : (sh : Shape) (t : Heading) (bloom entries digests extents : List ℕ)
+    → itemsForm sh t bloom Entries digests entries extents (entryCount entries) ≡ tidyForm sh (requested (asked t bloom entries digests extents))
 unfolding itemsForm requested itemRow rowOfEntry itemEntry extentsOfEntry itemExtents entryRow entryDigestBytes
-same-form t bloom entries digests extents = refl
+same-form sh t bloom entries digests extents = refl
 
 -- ---- the table before the rest
 

@@ -15,6 +15,7 @@ use answer::Written;
 use key::Kind;
 use segment::entry::Entry;
 use segment::header::Heading;
+use segment::shape::Shape;
 
 // Everything but the table.
 fn write_under(
@@ -32,14 +33,14 @@ fn write_under(
         (tidyForm v3 (requested (asked t (now (bloom .entry)) (now (entries .entry)) (now (digests .entry)) (now (extents .entry)))))
         (now (out .entry)) (now (out .exit)) r ⌝ }
 {
-    match write_request::check_request(pairs, bloom.len(), entries, digests, extents) {
+    match write_request::check_request(Shape::V3, pairs, bloom.len(), entries, digests, extents) {
         Verdict::Refused(x) => {
             return Written::Refused(x);
         }
         Verdict::Accepted => {}
     }
     let n = entries.len() / Entry::SIZE;
-    put_tidy::put_tidy(t, bloom, Kind::Entries, digests, entries, extents, n, out)
+    put_tidy::put_tidy(Shape::V3, t, bloom, Kind::Entries, digests, entries, extents, n, out)
 }
 
 // The entries are nine numbers each, in the order of `segment::entry::Entry`, the extents three: block, offset, length. A refused

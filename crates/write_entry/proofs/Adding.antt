@@ -73,9 +73,9 @@ module _ (xs : List ℕ) (first count i sum : ℕ) (v : Adding xs first count i 
       let e : sumLengths (left xs first count i) ≡ sizeNo xs (first + i) + sumLengths (left xs first count (i + 1)) = rw (next-listed xs first count i h) in
       v .sums ∙ rw e (omega arith)
 
-  pub total-past : not t ≡ true → false ≡ totalKept (extentsFrom xs first count)
+  pub total-past : (limit : ℕ) → not t ≡ true → false ≡ totalKept (extentsFrom xs first count) limit
   unfolding totalKept
-  total-past n = rw (fits-next false (not-true t n))
+  total-past limit n = rw (fits-next false (not-true t n))
 
   -- a length that fits its field, so that the sum stays small
   pub size-fits : not t ≡ false → sizeNo xs (first + i) < 4294967296
@@ -104,6 +104,6 @@ module _ (xs : List ℕ) (first count i sum : ℕ) (v : Adding xs first count i 
       let e : count - i ≡ 0 = omega arith in
       v .sums ∙ rw e (omega arith)
 
-  pub total-told : leb sum 4294967295 ≡ totalKept (extentsFrom xs first count)
+  pub total-told : (limit : ℕ) → leb sum limit ≡ totalKept (extentsFrom xs first count) limit
   unfolding totalKept
-  total-told = rw (all-fit, all-added)
+  total-told limit = rw (all-fit, all-added)

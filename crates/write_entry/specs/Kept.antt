@@ -2,7 +2,7 @@
 --   marksKept    7, of its visibility, its imported and gone marks, and its source
 --   listsKept    15, of where its digest starts, its size and the digest bytes there are; its first extent, its count and the extents listed
 --   placesKept   9, of its gone mark, its first extent and its extent count
---   totalKept    10, of its extents
+--   totalKept    10, of its extents and the limit of a total
 -- Assumes nothing: these are definitions.
 use Prim.Native.Nat.{ℕ, _+_}
 use mathlib.Core.Bool.{Bool, cond, _&&_, _||_}
@@ -22,5 +22,5 @@ listsKept start size bytes first count listed = leb (start + size) bytes && leb 
 unfoldable pub placesKept : ℕ → ℕ → ℕ → Bool
 placesKept gone first count = cond (eqb gone 1) (eqb first 0 && eqb count 0) (leb 1 count && ltb count 4294967296)
 
-unfoldable pub totalKept : List Extent → Bool
-totalKept es = allListedFit es && leb (sumLengths es) 4294967295
+unfoldable pub totalKept : List Extent → ℕ → Bool
+totalKept es limit = allListedFit es && leb (sumLengths es) limit

@@ -1,5 +1,5 @@
-// 10: the numbers of each extent fit their fields, each lies inside its block, and the lengths add up to no more than a total
-// length can say. One pass over the extents.
+// 10: the numbers of each extent fit their fields, each lies inside its block, and the lengths add up to no more than a total may
+// be. One pass over the extents.
 ghost use mathlib.Core.Path.{_≡_};
 ghost use mathlib.Core.Bool.{_&&_};
 ghost use Prim.Native.Nat.{_+_, _<_, _≤_};
@@ -22,9 +22,9 @@ fn extent_fits(offset: u64, size: u64) -> bool
 }
 
 // Of `count` extents of a list, from `first` on.
-pub fn total_kept(extents: &[u64], first: u64, count: u64) -> bool
+pub fn total_kept(extents: &[u64], first: u64, count: u64, limit: u64) -> bool
     requires { ⌜ (first + count ≤ listedExtents (now extents)) × (count < 4294967296) ⌝ }
-    ensures { λ r. ⌜ r ≡ totalKept (extentsFrom (now (extents .entry)) first count) ⌝ }
+    ensures { λ r. ⌜ r ≡ totalKept (extentsFrom (now (extents .entry)) first count) limit ⌝ }
 {
     let mut sum: u64 = 0;
     let mut i: u64 = 0;
@@ -37,5 +37,5 @@ pub fn total_kept(extents: &[u64], first: u64, count: u64) -> bool
         sum += size;
         i += 1;
     }
-    sum <= 4294967295
+    sum <= limit
 }

@@ -19,7 +19,7 @@ use Rattle.answer.proofs.Order.{first-more, first-refused}
 use Rattle.table.specs.Table.{allows}
 use Rattle.segment.specs.declared.entry.Entry.{Entry}
 use Rattle.segment.specs.declared.extent.Extent.{Extent}
-use Rattle.segment.specs.Format.{v3}
+use Rattle.segment.specs.declared.shape.Shape.{Shape}
 use Rattle.segment.specs.Keys.{freshKey}
 use Rattle.segment.specs.Write.{
   entryPlace,
@@ -65,9 +65,9 @@ places-one e k =
     (λ g. rw g (simp must-both))
     (λ g. rw g (simp must-both))
 
-total-one : (es : List Extent) (k : ℕ) → entryTotal v3 es k ≡ must (totalKept es) (refusal Total k)
+total-one : (sh : Shape) (es : List Extent) (k : ℕ) → entryTotal sh es k ≡ must (totalKept es (sh .«total_limit»)) (refusal Total k)
 unfolding entryTotal totalKept
-total-one es k = simp must-both
+total-one sh es k = simp must-both
 
 -- an entry that keeps 15 and 9 has extents that can be counted and read
 pub extents-held : (start size bytes first count listed gone : ℕ) → listsKept start size bytes first count listed ≡ true
@@ -102,58 +102,58 @@ module _ {v : Verdict} {k : ℕ} {m l d p t : Bool} (f : InFive v k m l d p t) w
     pub all-kept : t ≡ true → Accepted ≡ v
     all-kept h = rw (f .told, a, b, c, g, h)
 
-pub entry-five : (pairs digests extents : List ℕ) (e : Entry) (k : ℕ)
-    → InFive (entryRules v3 pairs digests extents e k) k (marksKept (e .visibility) (e .imported) (e .gone) (e .source))
+pub entry-five : (sh : Shape) (pairs digests extents : List ℕ) (e : Entry) (k : ℕ)
+    → InFive (entryRules sh pairs digests extents e k) k (marksKept (e .visibility) (e .imported) (e .gone) (e .source))
     (listsKept (e .«digest_start») (e .«digest_length») (length digests) (e .«first_extent») (e .«extent_count») (listedExtents extents))
     (allows pairs (e .«hash_id») (e .«digest_length»)) (placesKept (e .gone) (e .«first_extent») (e .«extent_count»))
-    (totalKept (entryExtents extents e))
+    (totalKept (entryExtents extents e) (sh .«total_limit»))
 unfolding entryRules entryDigest
-entry-five pairs digests extents e k = record { told = rw (marks-one e k, lists-one digests extents e k, places-one e k, total-one (entryExtents extents e) k) }
+entry-five sh pairs digests extents e k = record { told = rw (marks-one e k, lists-one digests extents e k, places-one e k, total-one sh (entryExtents extents e) k) }
 
 -- the first of them: its premises are as the call and the test leave them
-pub marks-stop : (pairs digests extents : List ℕ) (e : Entry) (k : ℕ) (t : Bool)
-    → t ≡ marksKept (e .visibility) (e .imported) (e .gone) (e .source) → not t ≡ true → Refused (refusal Record k) ≡ entryRules v3 pairs digests extents e k
-marks-stop pairs digests extents e k t p a = rw (entry-five pairs digests extents e k .told, was-false p a)
+pub marks-stop : (sh : Shape) (pairs digests extents : List ℕ) (e : Entry) (k : ℕ) (t : Bool)
+    → t ≡ marksKept (e .visibility) (e .imported) (e .gone) (e .source) → not t ≡ true → Refused (refusal Record k) ≡ entryRules sh pairs digests extents e k
+marks-stop sh pairs digests extents e k t p a = rw (entry-five sh pairs digests extents e k .told, was-false p a)
 
 -- ---- each entry, and the request
 
-module _ (pairs entries digests extents : List ℕ) where
+module _ (sh : Shape) (pairs entries digests extents : List ℕ) where
   -- a loop has come to k, and nothing is refused below it
-  module _ (k : ℕ) (p : firstOver k (entryVerdict v3 pairs entries digests extents) ≡ Accepted) where
+  module _ (k : ℕ) (p : firstOver k (entryVerdict sh pairs entries digests extents) ≡ Accepted) where
     module _ (e : Entry) (q : e ≡ entryNo entries k) (at : ℕ) (w : at ≡ entryPlace k) where
-      here : entryVerdict v3 pairs entries digests extents k ≡ entryRules v3 pairs digests extents e at
+      here : entryVerdict sh pairs entries digests extents k ≡ entryRules sh pairs digests extents e at
       unfolding entryVerdict
       here = rw (q, w)
 
-      pub entry-refused : (n : ℕ) (x : Refusal) → k < n → entryRules v3 pairs digests extents e at ≡ Refused x
-          → Refused x ≡ firstOver n (entryVerdict v3 pairs entries digests extents)
-      entry-refused n x l f = sym (first-refused n k (entryVerdict v3 pairs entries digests extents) x l p (here ∙ f))
+      pub entry-refused : (n : ℕ) (x : Refusal) → k < n → entryRules sh pairs digests extents e at ≡ Refused x
+          → Refused x ≡ firstOver n (entryVerdict sh pairs entries digests extents)
+      entry-refused n x l f = sym (first-refused n k (entryVerdict sh pairs entries digests extents) x l p (here ∙ f))
 
-      pub entry-passed : entryRules v3 pairs digests extents e at ≡ Accepted → firstOver (k + 1) (entryVerdict v3 pairs entries digests extents) ≡ Accepted
-      entry-passed f = first-more k (entryVerdict v3 pairs entries digests extents) p (here ∙ f)
+      pub entry-passed : entryRules sh pairs digests extents e at ≡ Accepted → firstOver (k + 1) (entryVerdict sh pairs entries digests extents) ≡ Accepted
+      entry-passed f = first-more k (entryVerdict sh pairs entries digests extents) p (here ∙ f)
 
-    pub entries-passed : (n : ℕ) → k ≤ n → n ≤ k → Accepted ≡ firstOver n (entryVerdict v3 pairs entries digests extents)
+    pub entries-passed : (n : ℕ) → k ≤ n → n ≤ k → Accepted ≡ firstOver n (entryVerdict sh pairs entries digests extents)
     entries-passed n a b =
         let e : n ≡ k = omega arith in
         rw (e, p)
 
   module _ (bloom : ℕ) where
-    pub too-many : 65536 < entryCount entries → Refused (refusal Large 0) ≡ requestRules v3 pairs bloom entries digests extents
+    pub too-many : 65536 < entryCount entries → Refused (refusal Large 0) ≡ requestRules sh pairs bloom entries digests extents
     unfolding requestRules
     too-many a = simp tests
 
     module _ (a : entryCount entries ≤ 65536) where
-      pub bloom-odd : (bloom % 8 ≡ 0 → ⊥) → Refused (refusal Layout 0) ≡ requestRules v3 pairs bloom entries digests extents
+      pub bloom-odd : (bloom % 8 ≡ 0 → ⊥) → Refused (refusal Layout 0) ≡ requestRules sh pairs bloom entries digests extents
       unfolding requestRules
       bloom-odd b = simp tests
 
       module _ (b : bloom % 8 ≡ 0) where
-        pub entries-stop : (x : Refusal) → firstOver (entryCount entries) (entryVerdict v3 pairs entries digests extents) ≡ Refused x
-            → Refused x ≡ requestRules v3 pairs bloom entries digests extents
+        pub entries-stop : (x : Refusal) → firstOver (entryCount entries) (entryVerdict sh pairs entries digests extents) ≡ Refused x
+            → Refused x ≡ requestRules sh pairs bloom entries digests extents
         unfolding requestRules
         entries-stop x f = simp (tests, f)
 
-        pub keys-told : {v : Verdict} → firstOver (entryCount entries) (entryVerdict v3 pairs entries digests extents) ≡ Accepted
-            → v ≡ firstOver (entryCount entries) (freshKey (itemKey Entries digests entries) (itemPlace Entries)) → v ≡ requestRules v3 pairs bloom entries digests extents
+        pub keys-told : {v : Verdict} → firstOver (entryCount entries) (entryVerdict sh pairs entries digests extents) ≡ Accepted
+            → v ≡ firstOver (entryCount entries) (freshKey (itemKey Entries digests entries) (itemPlace Entries)) → v ≡ requestRules sh pairs bloom entries digests extents
         unfolding requestRules
         keys-told f g = g ∙ same-keys entries digests (entryCount entries) ∙ simp (tests, f)

@@ -2,7 +2,6 @@
 // by number, and 12.
 ghost use mathlib.Core.Path.{_≡_};
 ghost use Rattle.answer.specs.Rules.{firstOver};
-ghost use Rattle.segment.specs.Format.{v3};
 ghost use Rattle.segment.specs.Write.{entryCount, entryRules, entryVerdict, requestRules};
 use answer::Refusal;
 use answer::Rule;
@@ -11,6 +10,7 @@ use key::Kind;
 use segment::entry;
 use segment::entry::Entry;
 use segment::extent::Extent;
+use segment::shape::Shape;
 use write_entry::reach::lists_kept;
 use write_entry::total::total_kept;
 
@@ -18,8 +18,15 @@ use write_entry::total::total_kept;
 const MOST: usize = segment::MOST_RECORDS as usize;
 
 // One entry, which is refused at a place.
-fn check_entry(pairs: &[u64], digests: &[u8], extents: &[u64], e: Entry, place: u64) -> Verdict
-    ensures { λ v. ⌜ v ≡ entryRules v3 (now (pairs .entry)) (now (digests .entry)) (now (extents .entry)) e place ⌝ }
+fn check_entry(
+    sh: Shape,
+    pairs: &[u64],
+    digests: &[u8],
+    extents: &[u64],
+    e: Entry,
+    place: u64,
+) -> Verdict
+    ensures { λ v. ⌜ v ≡ entryRules sh (now (pairs .entry)) (now (digests .entry)) (now (extents .entry)) e place ⌝ }
 {
     let bytes = digests.len() as u64;
     let count = (extents.len() / Extent::LISTED) as u64;
@@ -42,21 +49,28 @@ fn check_entry(pairs: &[u64], digests: &[u8], extents: &[u64], e: Entry, place: 
     if !write_entry::places_kept(e.gone, e.first_extent, e.extent_count) {
         return Verdict::Refused(Refusal(Rule::Extents, place));
     }
-    if !total_kept(extents, e.first_extent, e.extent_count) {
+    if !total_kept(extents, e.first_extent, e.extent_count, sh.total_limit) {
         return Verdict::Refused(Refusal(Rule::Total, place));
     }
     Verdict::Accepted
 }
 
 // Every whole entry of the list.
-fn check_entries(pairs: &[u64], entries: &[u64], digests: &[u8], extents: &[u64]) -> Verdict
+fn check_entries(
+    sh: Shape,
+    pairs: &[u64],
+    entries: &[u64],
+    digests: &[u8],
+    extents: &[u64],
+) -> Verdict
     ensures { λ r. ⌜ r ≡ firstOver (entryCount (now (entries .entry)))
-        (entryVerdict v3 (now (pairs .entry)) (now (entries .entry)) (now (digests .entry)) (now (extents .entry))) ⌝ }
+        (entryVerdict sh (now (pairs .entry)) (now (entries .entry)) (now (digests .entry)) (now (extents .entry))) ⌝ }
 {
     let count = entries.len() / Entry::SIZE;
     let mut k = 0;
     while k < count {
         match check_entry(
+            sh,
             pairs,
             digests,
             extents,
@@ -75,13 +89,14 @@ fn check_entries(pairs: &[u64], entries: &[u64], digests: &[u8], extents: &[u64]
 
 // `bloom` is the number of bloom bytes; which they are does not matter here.
 pub fn check_request(
+    sh: Shape,
     pairs: &[u64],
     bloom: usize,
     entries: &[u64],
     digests: &[u8],
     extents: &[u64],
 ) -> Verdict
-    ensures { λ r. ⌜ r ≡ requestRules v3 (now (pairs .entry)) bloom (now (entries .entry)) (now (digests .entry)) (now (extents .entry)) ⌝ }
+    ensures { λ r. ⌜ r ≡ requestRules sh (now (pairs .entry)) bloom (now (entries .entry)) (now (digests .entry)) (now (extents .entry)) ⌝ }
 {
     let n = entries.len() / Entry::SIZE;
     if MOST < n {
@@ -90,7 +105,7 @@ pub fn check_request(
     if bloom % 8 != 0 {
         return Verdict::Refused(Refusal(Rule::Layout, 0));
     }
-    match check_entries(pairs, entries, digests, extents) {
+    match check_entries(sh, pairs, entries, digests, extents) {
         Verdict::Refused(x) => {
             return Verdict::Refused(x);
         }

@@ -5,6 +5,7 @@ use borrow.Author.Needs.{needs}
 use Rattle.numbers.specs.Numbers.{Bytes}
 use Rattle.answer.specs.declared.Verdict.the-variants.{Accepted}
 use Rattle.segment.specs.Format.{v3, headerOf}
+use Rattle.segment.proofs.Shapes.{v3-shaped}
 use Rattle.segment.specs.Check.{segmentVerdict}
 use Rattle.put_tidy.proofs.Left.{left-refused, left-written}
 use Rattle.check_book.specs.Readable.{Readable}
@@ -21,7 +22,7 @@ module _ (c : tie.After-enum-told) where
   bytes i = let f = c .before .before .before .before .shared-slice-known2 .given i in omega arith
 
   readable : let seg = c .before .before .before .before .before .before .args .seg .now in Readable v3 seg (headerOf seg)
-  readable = under-readable _ _ (c .before .before .before .before .before .before .pre) accepted
+  readable = under-readable v3 v3-shaped _ _ (c .before .before .before .before .before .before .pre) accepted
 
 known : (c : tie.After-of) → Readable v3 (c .before .before .before .before .before .before .before .args .seg .now) (c .of .result)
 known c = read _ _ _ (c .of .ensures) (readable (c .before))
@@ -36,14 +37,14 @@ tidy-under-spec =
     (λ c. search needs)
     (λ c κs. omega (arith, readable c .long))
     (λ c κs. known c .long)
-    (λ c. omega (arith, bloom-within _ _ (known (c .before))))
+    (λ c. omega (arith, bloom-within _ _ _ (known (c .before))))
     (λ c. omega arith)
-    (λ c. omega (arith, bloom-within _ _ (known (c .before))))
-    (λ c. omega (arith, bloom-within _ _ (known (c .before))))
+    (λ c. omega (arith, bloom-within _ _ _ (known (c .before))))
+    (λ c. omega (arith, bloom-within _ _ _ (known (c .before))))
     (λ c. search needs)
     (λ c. search needs)
     (λ c κs. let of = c .before .before .before .before .before in
-    (read-lines _ _ (known of) (bytes (of .before)) _ _, known of .laid .layout .few))
+    (v3-shaped, (read-lines _ _ _ (known of) (bytes (of .before)) _ _, known of .laid .layout .few)))
     (λ c. search needs)
     (λ c. let made = c .before .before .before .before .before .before .before in let read = made .before in
-    left-written _ _ _ _ _ _ (accepted (read .before)) (read-form _ _ _ _ _ (read .of .ensures) (made .heading-of .ensures)) (c .before .before .put-tidy .ensures)))
+    left-written _ _ _ _ _ _ (accepted (read .before)) (read-form _ _ _ _ _ _ (read .of .ensures) (made .heading-of .ensures)) (c .before .before .put-tidy .ensures)))

@@ -14,19 +14,19 @@ check-entry-spec =
     (λ c κs. search needs)
     (λ c.
     let marks = c .before .before in
-    lists-stop (entry-five _ _ _ _ _) (was-true (marks .before .marks-kept .ensures) (marks .if1 .left)) (was-false (c .before .lists-kept .ensures) (c .if2 .taken)))
+    lists-stop (entry-five _ _ _ _ _ _) (was-true (marks .before .marks-kept .ensures) (marks .if1 .left)) (was-false (c .before .lists-kept .ensures) (c .if2 .taken)))
     (λ c κs. search needs)
     (λ c.
     let lists = c .before .before in
     let marks = lists .before .before in
-    digest-stops (entry-five _ _ _ _ _) (was-true (marks .before .marks-kept .ensures) (marks .if1 .left))
+    digest-stops (entry-five _ _ _ _ _ _) (was-true (marks .before .marks-kept .ensures) (marks .if1 .left))
     (was-true (lists .before .lists-kept .ensures) (lists .if2 .left)) (was-false (c .before .allows .ensures) (c .if3 .taken)))
     (λ c κs. search needs)
     (λ c.
     let digest = c .before .before in
     let lists = digest .before .before in
     let marks = lists .before .before in
-    places-stop (entry-five _ _ _ _ _) (was-true (marks .before .marks-kept .ensures) (marks .if1 .left))
+    places-stop (entry-five _ _ _ _ _ _) (was-true (marks .before .marks-kept .ensures) (marks .if1 .left))
     (was-true (lists .before .lists-kept .ensures) (lists .if2 .left)) (was-true (digest .before .allows .ensures) (digest .if3 .left))
     (was-false (c .before .places-kept .ensures) (c .if4 .taken)))
     (λ c κs.
@@ -37,7 +37,7 @@ check-entry-spec =
     let digest = places .before .before in
     let lists = digest .before .before in
     let marks = lists .before .before in
-    total-stops (entry-five _ _ _ _ _) (was-true (marks .before .marks-kept .ensures) (marks .if1 .left))
+    total-stops (entry-five _ _ _ _ _ _) (was-true (marks .before .marks-kept .ensures) (marks .if1 .left))
     (was-true (lists .before .lists-kept .ensures) (lists .if2 .left)) (was-true (digest .before .allows .ensures) (digest .if3 .left))
     (was-true (places .before .places-kept .ensures) (places .if4 .left)) (was-false (c .before .total-kept .ensures) (c .if5 .taken)))
     (λ c.
@@ -45,6 +45,6 @@ check-entry-spec =
     let digest = places .before .before in
     let lists = digest .before .before in
     let marks = lists .before .before in
-    all-kept (entry-five _ _ _ _ _) (was-true (marks .before .marks-kept .ensures) (marks .if1 .left))
+    all-kept (entry-five _ _ _ _ _ _) (was-true (marks .before .marks-kept .ensures) (marks .if1 .left))
     (was-true (lists .before .lists-kept .ensures) (lists .if2 .left)) (was-true (digest .before .allows .ensures) (digest .if3 .left))
     (was-true (places .before .places-kept .ensures) (places .if4 .left)) (was-true (c .before .total-kept .ensures) (c .if5 .left))))

@@ -11,7 +11,7 @@ use Rattle.write_request.proofs.check_request.Tie as tie
 stopped : tie.Need-returns-3
 stopped c =
     let said = c .before .before .before in
-    entries-stop _ _ _ _ _ (said .before .before .if1 .left) (said .before .if2 .left) _ (sym (said .check-entries .ensures) ∙ c .before .x .given .1)
+    entries-stop _ _ _ _ _ _ (said .before .before .if1 .left) (said .before .if2 .left) _ (sym (said .check-entries .ensures) ∙ c .before .x .given .1)
 
 asked : tie.Need-keys-climb-requires
 asked c κs = entries-stand _ _ _ _ _ (entries-book _ _ _ _ _ _ .0 (sym (c .before .before .check-entries .ensures) ∙ c .enum-told .given .1))
@@ -21,7 +21,7 @@ climbing c =
     let at = c .before .before in
     let said = at .before .before in
     let new = sym (keys-book _ _ _ .1 (none-twice _ _ _ _ (sym (c .before .keys-climb .ensures) ∙ c .if3 .taken))) in
-    keys-told _ _ _ _ _ (said .before .before .if1 .left) (said .before .if2 .left) (sym (said .check-entries .ensures) ∙ at .enum-told .given .1) new
+    keys-told _ _ _ _ _ _ (said .before .before .if1 .left) (said .before .if2 .left) (sym (said .check-entries .ensures) ∙ at .enum-told .given .1) new
 
 readable : tie.Need-check-keys-requires
 readable c κs =
@@ -33,15 +33,15 @@ told : tie.Need-returns-5
 told c =
     let at = c .before .before .before in
     let said = at .before .before in
-    keys-told _ _ _ _ _ (said .before .before .if1 .left) (said .before .if2 .left) (sym (said .check-entries .ensures) ∙ at .enum-told .given .1)
+    keys-told _ _ _ _ _ _ (said .before .before .if1 .left) (said .before .if2 .left) (sym (said .check-entries .ensures) ∙ at .enum-told .given .1)
     (c .check-keys .ensures)
 
 pub check-request-spec : {M : Type 1} → statement M
 check-request-spec =
     tie.close
     (tie.spec
-    (λ c. too-many _ _ _ _ _ (c .if1 .taken))
-    (λ c. bloom-odd _ _ _ _ _ (c .before .if1 .left) (c .if2 .taken))
+    (λ c. too-many _ _ _ _ _ _ (c .if1 .taken))
+    (λ c. bloom-odd _ _ _ _ _ _ (c .before .if1 .left) (c .if2 .taken))
     (λ c κs. search needs)
     (λ c. search needs)
     stopped

@@ -7,15 +7,15 @@ use Rattle.write_entry.proofs.total.total_kept.Statement.{statement}
 use Rattle.write_entry.proofs.total.total_kept.Tie as tie
 
 abbrev Inv-loop : tie.InvT-loop
-Inv-loop extents first count sum₀ i₀ sum i = Adding extents first count i sum
+Inv-loop extents first count limit sum₀ i₀ sum i = Adding extents first count i sum
 
 abbrev μ-loop : tie.MeasureT-loop
-μ-loop extents first count sum₀ i₀ sum i = count - i
+μ-loop extents first count limit sum₀ i₀ sum i = count - i
 
 past : tie.Need-returns Inv-loop μ-loop
 past c =
     let loop = c .before .before .before .before in
-    total-past _ _ _ _ _ (loop .before .loop .inv) (omega arith) _ (c .before .extent-fits .ensures) (c .if1 .taken)
+    total-past _ _ _ _ _ (loop .before .loop .inv) (omega arith) _ (c .before .extent-fits .ensures) _ (c .if1 .taken)
 
 small : tie.Need-add-sum Inv-loop μ-loop
 small c =
@@ -49,4 +49,4 @@ total-kept-spec =
     (λ c. omega arith)
     (λ c. search needs)
     more
-    (λ c. total-told _ _ _ _ _ (c .before .loop .inv) (omega arith)))
+    (λ c. total-told _ _ _ _ _ (c .before .loop .inv) (omega arith) _))
