@@ -52,11 +52,11 @@ pub pass-start : (sh : Shape) (pairs s : List ℕ) (h : Header) → Passing sh p
 unfolding largestBelow
 pass-start sh pairs s h = record { accepted = first-none (recordVerdict sh pairs s h); shown = refl }
 
-module _ (sh : Shape) (pairs s : List ℕ) (h : Header) (k largest : ℕ) (r : Record) (p : Passing sh pairs s h k largest)
-    (begins : ℕ) (b : begins ≡ recordAt sh h k) (q : r ≡ recordOf sh s begins) (at : ℕ) (w : at ≡ placeFrom sh (recordsOffset h) k) where
+module _ (sh : Shape) (pairs s : List ℕ) (h : Header) (k largest : ℕ) (r : Record) (p : Passing sh pairs s h k largest) (q : r ≡ recordOf sh s (recordAt sh h k))
+    (at : ℕ) (w : at ≡ placeFrom sh (recordsOffset h) k) where
   here : recordRules sh pairs s h r at ≡ recordVerdict sh pairs s h k
   unfolding recordVerdict recordNo
-  here = rw (q, b, w)
+  here = rw (q, w)
 
   pub pass-refused : (n : ℕ) (x : Refusal) → k < n → recordRules sh pairs s h r at ≡ Refused x → NotPassed x ≡ passed sh pairs s h n
   unfolding passed
@@ -66,7 +66,7 @@ module _ (sh : Shape) (pairs s : List ℕ) (h : Header) (k largest : ℕ) (r : R
   unfolding largestBelow visibilityNo recordNo
   pass-more m e f = record {
     accepted = first-more k (recordVerdict sh pairs s h) (p .accepted) (sym here ∙ e);
-    shown = f ∙ rw (add-one, p .shown, q, b);
+    shown = f ∙ rw (add-one, p .shown, q);
   }
 
 pub pass-done : (sh : Shape) (pairs s : List ℕ) (h : Header) (n k largest : ℕ) → Passing sh pairs s h k largest → k ≤ n → n ≤ k → Largest largest ≡ passed sh pairs s h n

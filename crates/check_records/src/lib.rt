@@ -127,7 +127,7 @@ pub fn check_records(sh: Shape, pairs: &[u64], seg: &[u8], h: Header) -> Passed
     let mut largest: u8 = 0;
     let mut k = 0;
     while k < count {
-        let r = Record::at(sh, seg, record::begins(sh, first, k));
+        let r = Record::nth(sh, seg, first, k);
         match check_record(sh, pairs, seg, h, r, record::place_of(sh, first, k)) {
             Verdict::Refused(x) => {
                 return Passed::Refused(x);

@@ -69,21 +69,21 @@ module _ (sh : Shape) (pairs s : List ℕ) (h : Header) (key : Key) (k : ℕ) (e
   unfolding itemKey itemHash itemDigest itemSpan recordSpan keyNo digestIn recordNo
   tested = rw e at t
 
-  at-record : (at : ℕ) (r : Record) → at ≡ recordAt sh h k → r ≡ recordOf sh s at → r ≡ recordNo sh s (headerOf s) k
+  at-record : (r : Record) → r ≡ recordOf sh s (recordAt sh h k) → r ≡ recordNo sh s (headerOf s) k
   unfolding recordNo
-  at-record at r p q = q ∙ ap (recordOf sh s) (p ∙ ap (λ (x : Header). recordAt sh x k) e)
+  at-record r q = q ∙ ap (λ (x : Header). recordOf sh s (recordAt sh x k)) e
 
   pub search-more : Searching sh s key k → b ≡ false → Searching sh s key (k + 1)
   unfolding foundNo
   search-more v f = record { none = found-more k (foundNo sh s (headerOf s) key) (v .none) (rw (sym tested ∙ f)) }
 
-  pub search-hit : (at : ℕ) (r : Record) (o : Found) → Searching sh s key k → b ≡ true → k < recordCount h
-      → at ≡ recordAt sh h k → r ≡ recordOf sh s at → o ≡ recordFound r → o ≡ foundIn sh s (headerOf s) key
+  pub search-hit : (r : Record) (o : Found) → Searching sh s key k → b ≡ true → k < recordCount h
+      → r ≡ recordOf sh s (recordAt sh h k) → o ≡ recordFound r → o ≡ foundIn sh s (headerOf s) key
   unfolding foundIn foundNo
-  search-hit at r o v f l a q p =
+  search-hit r o v f l q p =
       let n : k < recordCount (headerOf s) = rw e at l in
       let here : foundNo sh s (headerOf s) key k ≡ recordFound (recordNo sh s (headerOf s) k) = rw (sym tested ∙ f) in
-      let same : r ≡ recordNo sh s (headerOf s) k = at-record at r a q in
+      let same : r ≡ recordNo sh s (headerOf s) k = at-record r q in
       p ∙ ap recordFound same ∙ sym here
       ∙ sym (found-first (recordCount (headerOf s)) k (foundNo sh s (headerOf s) key) n (v .none) (λ z. never-absent (recordNo sh s (headerOf s) k) (sym here ∙ z)))
 

@@ -17,7 +17,6 @@ use answer::Verdict;
 use key::Kind;
 use key::head::Head;
 use segment::header::Header;
-use segment::record;
 use segment::record::Record;
 use segment::shape::Shape;
 
@@ -71,7 +70,7 @@ fn find(sh: Shape, seg: &[u8], hash: u64, digest: &[u8]) -> Found
             head,
             digest,
         ) {
-            return found(Record::at(sh, seg, record::begins(sh, first, k)));
+            return found(Record::nth(sh, seg, first, k));
         }
         k += 1;
     }

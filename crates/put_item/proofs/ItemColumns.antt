@@ -22,10 +22,10 @@ use Rattle.put_item.specs.Lines.{recordEntry, itemEntry, itemExtent, Hel
 -- ---- an item's numbers
 
 module _ (kind : Kind) (bytes list : List ℕ) (k : ℕ) where
-  pub record-entry : (first : ℕ) (sh : Shape) (at : ℕ) (r : Record) (e : Entry) → kind ≡ Records first sh → at ≡ recordFrom sh first k → r ≡ recordOf sh bytes at
+  pub record-entry : (first : ℕ) (sh : Shape) (r : Record) (e : Entry) → kind ≡ Records first sh → r ≡ recordOf sh bytes (recordFrom sh first k)
       → e ≡ recordEntry r → e ≡ itemEntry kind bytes list k
   unfolding itemEntry
-  record-entry first sh at r e q b h i = rw (q, i, h, b)
+  record-entry first sh r e q h i = rw (q, i, h)
 
   pub entry-entry : (e : Entry) → kind ≡ Entries → e ≡ entryNo list k → e ≡ itemEntry kind bytes list k
   unfolding itemEntry

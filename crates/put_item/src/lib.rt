@@ -51,9 +51,7 @@ pub fn entry_of(kind: Kind, bytes: &[u8], list: &[u64], k: usize) -> Entry
     ensures { λ r. ⌜ r ≡ itemEntry kind (now (bytes .entry)) (now (list .entry)) k ⌝ }
 {
     match kind {
-        Kind::Records(first, sh) => {
-            entry_of_record(Record::at(sh, bytes, record::begins(sh, first, k)))
-        }
+        Kind::Records(first, sh) => entry_of_record(Record::nth(sh, bytes, first, k)),
         Kind::Entries => Entry::at(list, k),
     }
 }

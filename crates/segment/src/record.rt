@@ -50,6 +50,15 @@ impl Record {
             flags: field_record::record::flags(seg, at),
         }
     }
+
+    // Record k of those that begin at a byte of the segment.
+    pub fn nth(sh: Shape, seg: &[u8], first: usize, k: usize) -> Self
+        requires { ⌜ Shaped sh ⌝ }
+        requires { ⌜ recordFrom sh first k + sh .«record_size» ≤ length (now seg) ⌝ }
+        ensures { λ r. ⌜ r ≡ recordOf sh (now (seg .entry)) (recordFrom sh first k) ⌝ }
+    {
+        Record::at(sh, seg, begins(sh, first, k))
+    }
 }
 
 // Where record k begins, of the records that begin at a byte of the segment.

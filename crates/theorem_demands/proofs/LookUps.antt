@@ -119,7 +119,7 @@ module _ (pairs s : List ℕ) (key : Key) where
       from-check r e = go (segmentVerdict v3 pairs s) refl
         where
           go : (v : Verdict) → segmentVerdict v3 pairs s ≡ v → Given pairs s r
-          go Accepted q = absurd (never-refused s (headerOf s) key r (sym (as-check ∙ rw q) ∙ e))
+          go Accepted q = absurd (never-refused v3 s (headerOf s) key r (sym (as-check ∙ rw q) ∙ e))
           go (Stopped x) q =
               let z : NotFound x ≡ NotFound r = sym (as-check ∙ rw q) ∙ e in
               let same : x ≡ r = cc in

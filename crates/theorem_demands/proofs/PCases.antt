@@ -70,7 +70,7 @@ use Rattle.segment.specs.Tidy.{tidyForm, formOf, formBody, formHeader, packed, 
 use Rattle.segment.specs.LookUp.{keyVerdict, recordFound, foundOver, foundNo, foundIn, foundUnder, lookedUp, lookUpOf}
 use Rattle.lists.proofs.Equal.{eqList-self}
 use Rattle.form_laws.proofs.PartsAt.{has-left, has-number}
-use Rattle.form_laws.proofs.Shapes.{v3-shaped}
+use Rattle.segment.proofs.Shapes.{v3-shaped}
 use Rattle.form_laws.proofs.Checksum.{body-bytes, crc-fits}
 use Rattle.form_laws.proofs.FormParts.{Parts, parts}
 use Rattle.theorem_demands.specs.PCases.{

@@ -14,6 +14,7 @@ use Rattle.answer.specs.Rules.{firstOver}
 use Rattle.answer.specs.Answers.{refused, checkAnswer}
 use Rattle.answer.proofs.Order.{never-both, Lowest, by-run}
 use Rattle.answer.proofs.Settled.{check-settled}
+use Rattle.segment.proofs.Shapes.{v3-shaped}
 use Rattle.segment.specs.Format.{v3, headerOf, recordCount}
 use Rattle.table.specs.Table.{goodTable}
 use Rattle.segment.specs.Keys.{freshKey}
@@ -110,7 +111,7 @@ module _ (pairs s : List ℕ) where
 
   from-layout : UpToHeader pairs s → Judged pairs s
   from-layout u =
-      by-cases (decided (layout-book s (headerOf s)))
+      by-cases (decided (layout-book v3 v3-shaped s (headerOf s)))
       (λ m. from-checksum (record { before = u; layout = m }))
       (λ n. gives _ (by-layout u n))
 

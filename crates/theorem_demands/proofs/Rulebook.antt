@@ -12,6 +12,7 @@ use Rattle.answer.specs.Answers.{checkAnswer}
 use Rattle.answer.proofs.Order.{then-accepted}
 use Rattle.answer.proofs.Settled.{check-settled}
 use Rattle.segment.specs.Format.{v3}
+use Rattle.segment.proofs.Shapes.{v3-shaped}
 use Rattle.table.specs.Table.{goodTable}
 use Rattle.segment.specs.Check.{checked, checkOf}
 use Rattle.segment.specs.Meets.{Meets}
@@ -30,4 +31,4 @@ accepted-iff pairs s g = simp (answer-is pairs s Accepted, checked-iff pairs s g
 -- and with the table's own rule: under one that is not good, check accepts nothing
 pub accepts-iff : (pairs s : List ℕ) → (checkOf pairs s ≡ accepted) ↔ (goodTable pairs ≡ true) × Meets v3 pairs s
 unfolding checked
-accepts-iff pairs s = simp (answer-is pairs s Accepted, then-accepted, table-book, segment-book) Iff·rfl
+accepts-iff pairs s = simp (answer-is pairs s Accepted, then-accepted, table-book, segment-book v3 v3-shaped) Iff·rfl

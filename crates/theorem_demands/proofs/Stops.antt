@@ -8,6 +8,7 @@ use Rattle.answer.specs.declared.Refusal.{Refusal}
 use Rattle.answer.specs.declared.Verdict.the-variants.{Accepted, Refused}
 use Rattle.answer.specs.Rules.{_then_, firstOver}
 use Rattle.answer.proofs.Order.{first-refused}
+use Rattle.segment.proofs.Shapes.{v3-shaped}
 use Rattle.segment.specs.Format.{v3, headerOf, recordCount}
 use Rattle.segment.specs.Keys.{freshKey}
 use Rattle.segment.specs.Check.{
@@ -77,7 +78,7 @@ module _ (pairs s : List ℕ) where
   head-kept u = head-book v3 (headerOf s) .1 (u .magic, u .version, u .header)
 
   layout-kept : UpToLayout pairs s → layoutVerdict v3 (headerOf s) (length s) ≡ Accepted
-  layout-kept u = layout-book s (headerOf s) .1 (u .layout)
+  layout-kept u = layout-book v3 v3-shaped s (headerOf s) .1 (u .layout)
 
   at-records : UpToChecksum pairs s
       → checked pairs s
@@ -128,7 +129,7 @@ module _ (pairs s : List ℕ) where
   given-refused r (by-magic u n) = head-stops u (magic-broken v3 (headerOf s) n)
   given-refused r (by-version u m n) = head-stops u (version-broken v3 (headerOf s) m n)
   given-refused r (by-header u m v n) = head-stops u (header-broken v3 (headerOf s) m v n)
-  given-refused r (by-layout u n) = layout-stops u (layout-broken s (headerOf s) n)
+  given-refused r (by-layout u n) = layout-stops u (layout-broken v3 v3-shaped s (headerOf s) n)
   given-refused r (by-checksum u n) = checksum-stops u (checksum-broken s n)
   given-refused r (by-marks k u n) = record-stops k u (marks-broken v3 pairs s (headerOf s) (recordIn s k) (placeIn s k) n)
   given-refused r (by-digest k u m n) = record-stops k u (digest-broken v3 pairs s (headerOf s) (recordIn s k) (placeIn s k) m n)

@@ -19,7 +19,7 @@ use Rattle.segment.specs.Check.{checked, checkOf}
 use Rattle.segment.specs.Meaning.{Meaning, meaningOf, SameMeaning}
 use Rattle.segment.specs.Tidy.{tidyForm, outcome, tidied, tidyOf}
 use Rattle.form_laws.specs.Form.{Tidies}
-use Rattle.form_laws.proofs.Shapes.{v3-shaped}
+use Rattle.segment.proofs.Shapes.{v3-shaped}
 use Rattle.form_laws.proofs.SortedForm.{tidy-bytes}
 use Rattle.form_laws.proofs.Canonical.{tidy-meets, tidy-same, tidy-ascends, tidy-again, tidy-canonical}
 use Rattle.form_laws.proofs.Meanings.{meaning-writable}

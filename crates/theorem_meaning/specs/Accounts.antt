@@ -32,7 +32,7 @@ abbrev pub bloomStretch : List ℕ → Header → List ℕ
 bloomStretch s h = part s (bloomOffset h) (bloomSize h)
 
 abbrev pub recordsStretch : List ℕ → Header → List ℕ
-recordsStretch s h = part s (recordsOffset h) (v3 .recordSize * recordCount h)
+recordsStretch s h = part s (recordsOffset h) (v3 .«record_size» * recordCount h)
 
 abbrev pub digestsStretch : List ℕ → Header → List ℕ
 digestsStretch s h = part s (digestsOffset h) (digestsSize h)
@@ -47,7 +47,7 @@ pub record EachByteOnce (s : List ℕ) (h : Header) : Type 0 where
   pub whole : s ≡ headerStretch s ++ (bloomStretch s h ++ (recordsStretch s h ++ (digestsStretch s h ++ (extentsStretch s h ++ footerStretch s))))
   pub header : length (headerStretch s) ≡ headerSize
   pub bloom : length (bloomStretch s h) ≡ bloomSize h
-  pub records : length (recordsStretch s h) ≡ v3 .recordSize * recordCount h
+  pub records : length (recordsStretch s h) ≡ v3 .«record_size» * recordCount h
   pub digests : length (digestsStretch s h) ≡ digestsSize h
   pub extents : length (extentsStretch s h) ≡ extentSize * extentCount h
   pub footer : length (footerStretch s) ≡ footerSize

@@ -35,8 +35,9 @@ use Rattle.segment.specs.Tidy.{
 }
 use Rattle.form_laws.proofs.PartsAt.{HasAt, has-left, has-right, has-number}
 use Rattle.form_laws.proofs.PackedFields.{before, field}
-use Rattle.form_laws.proofs.Shapes.{v3-shaped, record-long}
-use Rattle.form_laws.proofs.Sizes.{section-long, v3-length}
+use Rattle.segment.proofs.Shapes.{v3-shaped}
+use Rattle.form_laws.proofs.Shapes.{record-long}
+use Rattle.form_laws.proofs.Sizes.{section-long, form-length}
 use Rattle.form_laws.proofs.FormParts.{header, Parts, parts}
 use Rattle.theorem_demands.specs.Refusals.{recordIn}
 use Rattle.theorem_demands.proofs.Flat.{stands-at}
@@ -73,7 +74,7 @@ module _ (pairs s : List ℕ) (b : Bytes s) (m : Meets v3 pairs s) (is : formOf 
 
   long : length s ≡ 112 + bloomSize h + 48 * n + length (digestSection (all pairs s b m)) + 16 * extentsBefore s n + 24
   long =
-      let e = ap length (sym is) ∙ v3-length (heading pairs s b m) (bloom pairs s b m) (all pairs s b m) in
+      let e = ap length (sym is) ∙ form-length v3 v3-shaped (heading pairs s b m) (bloom pairs s b m) (all pairs s b m) in
       omega (arith, bloom-long pairs s b m, all-long pairs s b m, extents-whole pairs s b m)
 
   small : length s < 18446744073709551616

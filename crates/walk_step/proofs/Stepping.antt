@@ -81,12 +81,11 @@ module _ (pairs s : List ℕ) (v : Verdict) (checks : checkAnswer v ≡ checkOf 
           let n : recordCount (headerOf s) ≤ k = rw e at l in
           sym (step-done-iff pairs s k .1 (sym verdict ∙ a, n))
 
-      pub gives : (at : ℕ) (r : Record) → k < recordCount h → at ≡ recordAt v3 h k → r ≡ recordOf v3 s at → Row r ≡ stepped pairs s k
+      pub gives : (r : Record) → k < recordCount h → r ≡ recordOf v3 s (recordAt v3 h k) → Row r ≡ stepped pairs s k
       unfolding recordNo
-      gives at r l p q =
+      gives r l q =
           let n : k < recordCount (headerOf s) = rw e at l in
-          let here : at ≡ recordAt v3 (headerOf s) k = p ∙ ap (λ (x : Header). recordAt v3 x k) e in
-          sym (step-row-iff pairs s k r .1 (sym verdict ∙ a, (n, ap (recordOf v3 s) (sym here) ∙ sym q)))
+          sym (step-row-iff pairs s k r .1 (sym verdict ∙ a, (n, ap (λ (x : Header). recordOf v3 s (recordAt v3 x k)) (sym e) ∙ sym q)))
 
 -- ---- a step, and the place after it
 

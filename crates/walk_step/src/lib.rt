@@ -5,7 +5,6 @@ ghost use Rattle.segment.specs.Walk.{stepped};
 ghost use Rattle.walk_step.specs.Steps.{turnOf};
 use answer::Verdict;
 use segment::header::Header;
-use segment::record;
 use segment::record::Record;
 use segment::shape::Shape;
 use segment::step::Step;
@@ -32,8 +31,7 @@ fn step_at(pairs: &[u64], segment: &[u8], at: usize) -> Step
     if count <= at {
         return Step::Done;
     }
-    let begins = record::begins(Shape::V3, first, at);
-    Step::Row(Record::at(Shape::V3, segment, begins))
+    Step::Row(Record::nth(Shape::V3, segment, first, at))
 }
 
 // A step with the place after it: one on after a record, else the same.

@@ -40,7 +40,17 @@ fn write_under(
         Verdict::Accepted => {}
     }
     let n = entries.len() / Entry::SIZE;
-    put_tidy::put_tidy(Shape::V3, t, bloom, Kind::Entries, digests, entries, extents, n, out)
+    put_tidy::put_tidy(
+        Shape::V3,
+        t,
+        bloom,
+        Kind::Entries,
+        digests,
+        entries,
+        extents,
+        n,
+        out,
+    )
 }
 
 // The entries are nine numbers each, in the order of `segment::entry::Entry`, the extents three: block, offset, length. A refused

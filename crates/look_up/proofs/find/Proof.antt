@@ -18,24 +18,18 @@ abbrev μ-loop : tie.MeasureT-loop
 known : (c : tie.After-of Inv-loop μ-loop) → Readable (c .before .before .before .args .sh) (c .before .before .before .args .seg .now) (c .of .result)
 known c = read _ _ _ (c .of .ensures) (c .before .before .before .pre)
 
-begins : tie.Need-begins-requires Inv-loop μ-loop
-begins c κs =
+nth : tie.Need-nth-requires Inv-loop μ-loop
+nth c κs =
     let loop = c .before .before .before .before in
-    omega (arith, record-inside (known (loop .before) .laid) (loop .loop .k) (omega arith))
-
-at : tie.Need-at-requires Inv-loop μ-loop
-at c κs =
-    let loop = c .before .before .before .before .before in
     let laid = known (loop .before) .laid in
-    (laid .shaped, omega (arith, record-inside laid (loop .loop .k) (omega arith)))
+    (laid .shaped, record-inside laid (loop .loop .k) (omega arith))
 
 hit : tie.Need-returns Inv-loop μ-loop
 hit c =
-    let begun = c .before .before in
-    let asked = begun .before .before in
+    let asked = c .before .before .before in
     let loop = asked .before .before .before in
-    search-hit _ _ _ _ _ _ (loop .before .of .ensures) _ (asked .key-is .ensures) _ _ _ (loop .loop .inv .1) (begun .before .if1 .taken) (omega arith)
-    (begun .begins .ensures) (c .before .at .ensures) (c .found .ensures)
+    search-hit _ _ _ _ _ _ (loop .before .of .ensures) _ (asked .key-is .ensures) _ _ (loop .loop .inv .1) (c .before .before .if1 .taken) (omega arith)
+    (c .before .nth .ensures) (c .found .ensures)
 
 more : tie.Need-loop-again Inv-loop μ-loop
 more c =
@@ -55,8 +49,7 @@ find-spec =
     (λ c. (omega arith, search-start _ _ _))
     (λ c. search needs)
     (λ c κs. items _ _ _ _ (known (c .before .before .before)) .each _ (omega arith))
-    begins
-    at
+    nth
     (λ c κs. search needs)
     hit
     (λ c. search needs)

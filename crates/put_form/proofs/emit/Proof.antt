@@ -46,9 +46,9 @@ emit-spec =
       (
         start .pre .1 .0,
         (
-        plan (a .kind) (a .bytes .now) (a .list .now) (a .extents .now) _ (start .pre .1 .0) (a .t) (a .bloom .now) (a .numbers .now) (start .pre .0) (start .pre .1 .1) _ (measured .measure .ensures) _ (made .header-for .ensures) _ (length-take-le _ _ (omega (arith, c .before .if3 .left)))
-            (cut (length-take-le _ _ (omega (arith, c .before .if3 .left))) (c .before .before .if2 .left)),
-        form-header (a .kind) (a .bytes .now) (a .list .now) (a .extents .now) _ (start .pre .1 .0) (a .t) (a .bloom .now) (a .numbers .now) (start .pre .0) (start .pre .1 .1) _ (measured .measure .ensures) _ (made .header-for .ensures),
+          plan (a .kind) (a .bytes .now) (a .list .now) (a .extents .now) _ (start .pre .1 .0) (a .t) (a .bloom .now) (a .numbers .now) (start .pre .0) (start .pre .1 .1) _ (measured .measure .ensures) _ (made .header-for .ensures) _ (length-take-le _ _ (omega (arith, c .before .if3 .left)))
+              (cut (length-take-le _ _ (omega (arith, c .before .if3 .left))) (c .before .before .if2 .left)),
+          form-header (a .kind) (a .bytes .now) (a .list .now) (a .extents .now) _ (start .pre .1 .0) (a .t) (a .bloom .now) (a .numbers .now) (start .pre .0) (start .pre .1 .1) _ (measured .measure .ensures) _ (made .header-for .ensures),
         ),
       ),
     ))

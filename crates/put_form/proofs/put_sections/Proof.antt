@@ -24,10 +24,13 @@ records c κs =
     let start = c .before .before .before .before .before .before in
     let w = start .pre .1 .0 in
     let q = start .pre .1 .1 in
-    let a = start .args in
-    (start .pre .0,
-      (near _ w _ (a .kind) (a .bytes .now) (a .list .now) (a .extents .now) (a .numbers .now) _ _ q,
-        (w, records-room _ w _ _ _ _ q ∙ many _ w _ (a .kind) (a .bytes .now) (a .list .now) (a .extents .now) (a .numbers .now) _ _ q)))
+    let a = start .args in (
+      start .pre .0,
+      (
+        near _ w _ (a .kind) (a .bytes .now) (a .list .now) (a .extents .now) (a .numbers .now) _ _ q,
+        (w, records-room _ w _ _ _ _ q ∙ many _ w _ (a .kind) (a .bytes .now) (a .list .now) (a .extents .now) (a .numbers .now) _ _ q),
+      ),
+    )
 
 digests : tie.Need-put-digest-section-requires
 digests c κs =
@@ -35,18 +38,22 @@ digests c κs =
     let start = first .before .before .before .before .before .before .before in
     let w = start .pre .1 .0 in
     let q = start .pre .1 .1 in
-    let a = start .args in
-    (read-lines (a .kind) (a .bytes .now) (a .list .now) (a .extents .now) (a .numbers .now) (start .pre .0),
-      (filled _ w _ (a .kind) (a .bytes .now) (a .list .now) (a .extents .now) (a .numbers .now) _ _ q,
-        digests-room _ w _ _ _ _ q _ (first .put-records .ensures)))
+    let a = start .args in (
+      read-lines (a .kind) (a .bytes .now) (a .list .now) (a .extents .now) (a .numbers .now) (start .pre .0),
+      (
+        filled _ w _ (a .kind) (a .bytes .now) (a .list .now) (a .extents .now) (a .numbers .now) _ _ q,
+        digests-room _ w _ _ _ _ q _ (first .put-records .ensures),
+      ),
+    )
 
 extents : tie.Need-put-extents-requires
 extents c κs =
     let second = c .before .before .before in
     let first = second .before .before .before .before in
-    let start = first .before .before .before .before .before .before .before in
-    (start .pre .0,
-      extents-room _ (start .pre .1 .0) _ _ _ (start .args .out .now) (start .pre .1 .1) _ (first .put-records .ensures) _ (second .put-digest-section .ensures ∙ section-same _ _ _ _ _))
+    let start = first .before .before .before .before .before .before .before in (
+      start .pre .0,
+      extents-room _ (start .pre .1 .0) _ _ _ (start .args .out .now) (start .pre .1 .1) _ (first .put-records .ensures) _ (second .put-digest-section .ensures ∙ section-same _ _ _ _ _),
+    )
 
 returns : tie.Need-returns
 returns c =

@@ -6,20 +6,19 @@ use Rattle.put_item.proofs.ItemColumns.{record-entry, entry-entry}
 use Rattle.put_item.proofs.entry_of.Statement.{statement}
 use Rattle.put_item.proofs.entry_of.Tie as tie
 
-at : tie.Need-at-requires
-at c κs =
-    let s = record-stands _ _ _ _ _ _ (c .before .before .kind .given .1) (c .before .before .before .before .before .before .pre) in
-    (s .shaped, omega (arith, s .inside))
+nth : tie.Need-nth-requires
+nth c κs =
+    let s = record-stands _ _ _ _ _ _ (c .before .kind .given .1) (c .before .before .before .before .before .pre) in
+    (s .shaped, s .inside)
 
 pub entry-of-spec : {M : Type 1} → statement M
 entry-of-spec =
     tie.close
     (tie.spec
     (λ c. search needs)
-    (λ c κs. let s = record-stands _ _ _ _ _ _ (c .before .kind .given .1) (c .before .before .before .before .before .pre) in omega (arith, s .inside))
-    at
+    nth
     (λ c κs. search needs)
     (λ c. search needs)
     (λ c κs. let s = entry-stands _ _ _ _ (c .enum-told .given .1) (c .before .before .before .before .pre) in omega arith)
-    (λ c. let begun = c .before .before in record-entry _ _ _ _ _ _ _ _ _ (begun .before .before .kind .given .1) (begun .begins .ensures) (c .before .at .ensures) (c .entry-of-record .ensures))
-    (λ c. entry-entry _ _ _ _ _ (c .before .enum-told .given .1) (c .at2 .ensures)))
+    (λ c. record-entry _ _ _ _ _ _ _ _ (c .before .before .before .kind .given .1) (c .before .nth .ensures) (c .entry-of-record .ensures))
+    (λ c. entry-entry _ _ _ _ _ (c .before .enum-told .given .1) (c .at .ensures)))

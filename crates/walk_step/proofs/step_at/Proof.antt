@@ -16,17 +16,17 @@ known : (c : tie.After-of)
     → let start = c .before .before .before .before .before .before in Readable v3 (start .args .segment .now) (c .of .result)
 known c = read _ _ _ (c .of .ensures) (passed (c .before))
 
-at : tie.Need-at-requires
-at c κs =
-    let read = c .before .before in
+nth : tie.Need-nth-requires
+nth c κs =
+    let read = c .before in
     let laid = known read .laid in
-    (laid .shaped, omega (arith, record-inside laid (read .before .before .before .before .before .before .args .at) (omega arith)))
+    (laid .shaped, record-inside laid (read .before .before .before .before .before .before .args .at) (omega arith))
 
 gives-row : tie.Need-returns-3
 gives-row c =
-    let read = c .before .before .before in
+    let read = c .before .before in
     let said = read .before .before .before in
-    gives _ _ (said .check .result) (said .check .ensures) _ (read .before .enum-told .given .1) _ (read .of .ensures) _ _ (omega arith) (c .before .begins .ensures) (c .at .ensures)
+    gives _ _ (said .check .result) (said .check .ensures) _ (read .before .enum-told .given .1) _ (read .of .ensures) _ (omega arith) (c .nth .ensures)
 
 pub step-at-spec : {M : Type 1} → statement M
 step-at-spec =
@@ -38,6 +38,5 @@ step-at-spec =
     (λ c. search needs)
     (λ c κs. omega (arith, passed c .long))
     (λ c. ends _ _ (c .before .before .before .before .check .result) (c .before .before .before .before .check .ensures) _ (c .before .before .enum-told .given .1) _ (c .before .of .ensures) (omega arith))
-    (λ c κs. omega (arith, record-inside (known (c .before) .laid) (c .before .before .before .before .before .before .before .args .at) (omega arith)))
-    at
+    nth
     gives-row)
