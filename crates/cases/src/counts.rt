@@ -2,6 +2,7 @@
 ghost use mathlib.Core.Path.{_≡_};
 ghost use Prim.Native.Nat.{_*_};
 ghost use lib.ListN.{length};
+ghost use Rattle.segment.specs.Format.{entrySize};
 use asl::Heading;
 use asl::Written;
 
@@ -53,7 +54,7 @@ fn ask(name: &[u8], entries: &[u64], digests: &[u8]) {
 
 // Gone entries with the digests 0000, 0001 and so on.
 fn fill(entries: &mut [u64], digests: &mut [u8], count: usize)
-    requires { ⌜ length (now entries) ≡ 9 * count ⌝ }
+    requires { ⌜ length (now entries) ≡ entrySize * count ⌝ }
     requires { ⌜ length (now digests) ≡ 2 * count ⌝ }
 {
     let mut k = 0;

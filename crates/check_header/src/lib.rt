@@ -3,7 +3,7 @@ ghost use mathlib.Core.Path.{_≡_};
 ghost use Prim.Native.Nat.{_+_, _*_, _≤_};
 ghost use lib.Dec.{eqb};
 ghost use lib.ListN.{length};
-ghost use Rattle.segment.specs.Format.{footerSize};
+ghost use Rattle.segment.specs.Format.{extentSize, footerSize};
 ghost use Rattle.segment.specs.Shapes.{Shaped};
 ghost use Rattle.segment.specs.Check.{headVerdict, layoutVerdict, checksumVerdict};
 ghost use Rattle.check_header.specs.HeaderRules.{headerRules};
@@ -56,7 +56,7 @@ fn is_sum(whole: u64, a: u64, b: u64) -> bool
 
 // Whether a file of n bytes ends as it should: count extents from a place on, and the footer.
 fn ends_so(n: u64, extents: u64, count: u64) -> bool
-    ensures { λ r. ⌜ r ≡ eqb n (extents + 16 * count + 24) ⌝ }
+    ensures { λ r. ⌜ r ≡ eqb n (extents + extentSize * count + footerSize) ⌝ }
 {
     if n < Footer::LONG {
         return false;

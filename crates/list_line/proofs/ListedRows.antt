@@ -10,7 +10,8 @@ use lib.ListN.{length, take, drop, drop-of-length-le}
 use Rattle.segment.specs.declared.header.Header.{Header}
 use Rattle.segment.specs.declared.record.Record.{Record}
 use Rattle.segment.specs.declared.extent.Extent.{Extent}
-use Rattle.segment.specs.Format.{v3, recordOf, recordNo, extentsAt, extentsIn, recordCount, recordsOffset}
+use Rattle.segment.specs.declared.shape.Shape.{Shape}
+use Rattle.segment.specs.Format.{recordAt, recordOf, recordNo, extentsAt, extentsIn, recordCount}
 use Rattle.segment.specs.Check.{isGone, sumLengths, digestIn}
 use Rattle.segment.specs.Meaning.{gone, live, Row, rowExtents, rowOf, rowNo, rowsOf}
 use Rattle.lists.specs.Lists.{countFrom}
@@ -29,17 +30,17 @@ counted-here f zero a (suc n) l = ap (λ (i : ℕ). f i ∷ map f (countFrom (su
 counted-here f (suc k) a (suc n) l =
     counted-here f k (suc a) n (omega arith) ∙ ap (λ (i : ℕ). f i ∷ drop (suc k) (map f (countFrom (suc a) n))) (omega arith)
 
-module _ (s : List ℕ) (h : Header) where
-  pub rows-long : length (rowsOf v3 s h) ≡ recordCount h
+module _ (sh : Shape) (s : List ℕ) (h : Header) where
+  pub rows-long : length (rowsOf sh s h) ≡ recordCount h
   unfolding rowsOf
-  rows-long = counted-long (rowNo v3 s h) 0 (recordCount h)
+  rows-long = counted-long (rowNo sh s h) 0 (recordCount h)
 
-  pub rows-past : (k : ℕ) → recordCount h ≤ k → drop k (rowsOf v3 s h) ≡ []
-  rows-past k l = drop-of-length-le (rowsOf v3 s h) {i = k} (omega (arith, rows-long))
+  pub rows-past : (k : ℕ) → recordCount h ≤ k → drop k (rowsOf sh s h) ≡ []
+  rows-past k l = drop-of-length-le (rowsOf sh s h) {i = k} (omega (arith, rows-long))
 
-  pub rows-here : (k : ℕ) → k < recordCount h → drop k (rowsOf v3 s h) ≡ rowNo v3 s h k ∷ drop (suc k) (rowsOf v3 s h)
+  pub rows-here : (k : ℕ) → k < recordCount h → drop k (rowsOf sh s h) ≡ rowNo sh s h k ∷ drop (suc k) (rowsOf sh s h)
   unfolding rowsOf
-  rows-here k l = counted-here (rowNo v3 s h) k 0 (recordCount h) l ∙ ap (λ (i : ℕ). rowNo v3 s h i ∷ drop (suc k) (map (rowNo v3 s h) (countFrom 0 (recordCount h)))) (omega arith)
+  rows-here k l = counted-here (rowNo sh s h) k 0 (recordCount h) l ∙ ap (λ (i : ℕ). rowNo sh s h i ∷ drop (suc k) (map (rowNo sh s h) (countFrom 0 (recordCount h)))) (omega arith)
 
 -- a part is no longer than it was asked to be
 pub part-short : (n : ℕ) (xs : List ℕ) → length (take n xs) ≤ n
@@ -64,19 +65,16 @@ line-of k q s t n =
 
 -- ---- a record that was read
 
-module _ (s : List ℕ) (h : Header) (v : Readable v3 s h) (k : ℕ) (l : k < recordCount h) where
-  pub record-fits : recordsOffset h + 48 * k + 48 ≤ length s
-  record-fits = omega (arith, v .laid .layout)
-
-  module _ (r : Record) (e : r ≡ recordOf v3 s (recordsOffset h + 48 * k)) where
-    pub record-known : RecordReadable v3 s h r
+module _ (sh : Shape) (s : List ℕ) (h : Header) (v : Readable sh s h) (k : ℕ) (l : k < recordCount h) where
+  module _ (r : Record) (e : r ≡ recordOf sh s (recordAt sh h k)) where
+    pub record-known : RecordReadable sh s h r
     unfolding recordNo
-    record-known = subst (RecordReadable v3 s h) (sym e) (v .each k l)
+    record-known = subst (RecordReadable sh s h) (sym e) (v .each k l)
 
     pub few-extents : r .«extent_count» < 4294967296
     few-extents = omega (arith, record-known .extents, v .laid .most)
 
-    is-row : rowOf s r ≡ rowNo v3 s h k
+    is-row : rowOf s r ≡ rowNo sh s h k
     unfolding rowNo recordNo
     is-row = ap (rowOf s) e
 
@@ -86,14 +84,14 @@ module _ (s : List ℕ) (h : Header) (v : Readable v3 s h) (k : ℕ) (l : k < re
     own-count : length (rowExtents (rowOf s r)) ≡ r .«extent_count»
     own-count = ap length own-extents ∙ extents-counted s (r .«extents_offset» .0) (r .«extent_count»)
 
-    pub record-extents : rowExtents (rowNo v3 s h k) ≡ extentsIn s r
+    pub record-extents : rowExtents (rowNo sh s h k) ≡ extentsIn s r
     record-extents = ap rowExtents (sym is-row) ∙ own-extents
 
-    pub record-count : length (rowExtents (rowNo v3 s h k)) ≡ r .«extent_count»
+    pub record-count : length (rowExtents (rowNo sh s h k)) ≡ r .«extent_count»
     record-count = ap (λ (w : Row). length (rowExtents w)) (sym is-row) ∙ own-count
 
     pub record-line : (stop : ℕ) → stop ≡ r .«digest_offset» .0 + r .«digest_length»
-        → recordCells k r (take (stop - r .«digest_offset» .0) (drop (r .«digest_offset» .0) s)) ≡ recordLine k (rowNo v3 s h k)
+        → recordCells k r (take (stop - r .«digest_offset» .0) (drop (r .«digest_offset» .0) s)) ≡ recordLine k (rowNo sh s h k)
     unfolding digestIn
     record-line stop p =
         let n : stop - r .«digest_offset» .0 ≡ r .«digest_length» = omega arith in

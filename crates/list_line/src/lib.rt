@@ -2,7 +2,6 @@
 ghost use mathlib.Core.Path.{_≡_};
 ghost use Prim.Native.Nat.{_+_, _≤_};
 ghost use lib.ListN.{length, drop};
-ghost use Rattle.segment.specs.Format.{v3};
 ghost use Rattle.segment.specs.Meaning.{rowsOf, meaningOf};
 ghost use Rattle.segment.specs.Listing.{extentsListed};
 ghost use Rattle.check_book.specs.Readable.{Readable};
@@ -12,6 +11,7 @@ use list_place::Place;
 use segment::extent::Extent;
 use segment::header::Header;
 use segment::record::Record;
+use segment::shape::Shape;
 
 // Where the listing goes on, and where in the output.
 pub struct Stop {
@@ -20,16 +20,16 @@ pub struct Stop {
 }
 
 // The sum of the records' extent counts.
-fn count_extents(seg: &[u8], h: Header) -> u64
-    requires { ⌜ Readable v3 (now seg) h ⌝ }
-    ensures { λ r. ⌜ r ≡ extentsListed (meaningOf v3 (now (seg .entry))) ⌝ }
+fn count_extents(sh: Shape, seg: &[u8], h: Header) -> u64
+    requires { ⌜ Readable sh (now seg) h ⌝ }
+    ensures { λ r. ⌜ r ≡ extentsListed (meaningOf sh (now (seg .entry))) ⌝ }
 {
     let first = h.records_offset.0 as usize;
     let count = h.record_count as usize;
     let mut sum: u64 = 0;
     let mut k = 0;
     while k < count {
-        let r = Record::at(seg, first + Record::SIZE * k);
+        let r = Record::nth(sh, seg, first, k);
         sum += r.extent_count as u64;
         k += 1;
     }
@@ -37,10 +37,10 @@ fn count_extents(seg: &[u8], h: Header) -> u64
 }
 
 // The line of record k, or nothing behind the last one.
-fn put_record(seg: &[u8], h: Header, k: usize, at: usize, out: &mut [u8]) -> Stop
-    requires { ⌜ Readable v3 (now seg) h ⌝ }
+fn put_record(sh: Shape, seg: &[u8], h: Header, k: usize, at: usize, out: &mut [u8]) -> Stop
+    requires { ⌜ Readable sh (now seg) h ⌝ }
     requires { ⌜ at + 2169 ≤ length (now out) ⌝ }
-    ensures { λ r. ⌜ Stopped 2169 (recordPiece k (drop k (rowsOf v3 (now (seg .entry)) h))) (now (out .entry)) at (now (out .exit)) r ⌝ }
+    ensures { λ r. ⌜ Stopped 2169 (recordPiece k (drop k (rowsOf sh (now (seg .entry)) h))) (now (out .entry)) at (now (out .exit)) r ⌝ }
 {
     if h.record_count as usize <= k {
         return Stop {
@@ -49,7 +49,7 @@ fn put_record(seg: &[u8], h: Header, k: usize, at: usize, out: &mut [u8]) -> Sto
         };
     }
     let first = h.records_offset.0 as usize;
-    let r = Record::at(seg, first + Record::SIZE * k);
+    let r = Record::nth(sh, seg, first, k);
     let start = r.digest_offset.0 as usize;
     let stop = start + r.digest_length as usize;
     let end = list_record::put_record(k, r, &seg[start..stop], at, out);
@@ -60,10 +60,18 @@ fn put_record(seg: &[u8], h: Header, k: usize, at: usize, out: &mut [u8]) -> Sto
 }
 
 // The line of extent j of record k, or nothing behind a record's last one.
-fn put_extent(seg: &[u8], h: Header, k: usize, j: usize, at: usize, out: &mut [u8]) -> Stop
-    requires { ⌜ Readable v3 (now seg) h ⌝ }
+fn put_extent(
+    sh: Shape,
+    seg: &[u8],
+    h: Header,
+    k: usize,
+    j: usize,
+    at: usize,
+    out: &mut [u8],
+) -> Stop
+    requires { ⌜ Readable sh (now seg) h ⌝ }
     requires { ⌜ at + 2169 ≤ length (now out) ⌝ }
-    ensures { λ r. ⌜ Stopped 2169 (rowPiece k j (drop k (rowsOf v3 (now (seg .entry)) h))) (now (out .entry)) at (now (out .exit)) r ⌝ }
+    ensures { λ r. ⌜ Stopped 2169 (rowPiece k j (drop k (rowsOf sh (now (seg .entry)) h))) (now (out .entry)) at (now (out .exit)) r ⌝ }
 {
     if h.record_count as usize <= k {
         return Stop {
@@ -72,7 +80,7 @@ fn put_extent(seg: &[u8], h: Header, k: usize, j: usize, at: usize, out: &mut [u
         };
     }
     let first = h.records_offset.0 as usize;
-    let r = Record::at(seg, first + Record::SIZE * k);
+    let r = Record::nth(sh, seg, first, k);
     if r.extent_count as usize <= j {
         return Stop {
             next: Place::ExtentLine(k + 1, 0),
@@ -88,10 +96,10 @@ fn put_extent(seg: &[u8], h: Header, k: usize, j: usize, at: usize, out: &mut [u
 }
 
 // The piece at a place.
-pub fn put_piece(seg: &[u8], h: Header, place: Place, at: usize, out: &mut [u8]) -> Stop
-    requires { ⌜ Readable v3 (now seg) h ⌝ }
+pub fn put_piece(sh: Shape, seg: &[u8], h: Header, place: Place, at: usize, out: &mut [u8]) -> Stop
+    requires { ⌜ Readable sh (now seg) h ⌝ }
     requires { ⌜ at + 2169 ≤ length (now out) ⌝ }
-    ensures { λ r. ⌜ Stopped 2169 (pieceAt (meaningOf v3 (now (seg .entry))) place) (now (out .entry)) at (now (out .exit)) r ⌝ }
+    ensures { λ r. ⌜ Stopped 2169 (pieceAt (meaningOf sh (now (seg .entry))) place) (now (out .entry)) at (now (out .exit)) r ⌝ }
 {
     match place {
         Place::RecordCount => {
@@ -101,15 +109,15 @@ pub fn put_piece(seg: &[u8], h: Header, place: Place, at: usize, out: &mut [u8])
                 end,
             }
         }
-        Place::RecordLine(k) => put_record(seg, h, k, at, out),
+        Place::RecordLine(k) => put_record(sh, seg, h, k, at, out),
         Place::ExtentCount => {
-            let end = list_columns::put_count(b"extents", count_extents(seg, h), at, out);
+            let end = list_columns::put_count(b"extents", count_extents(sh, seg, h), at, out);
             Stop {
                 next: Place::ExtentLine(0, 0),
                 end,
             }
         }
-        Place::ExtentLine(k, j) => put_extent(seg, h, k, j, at, out),
+        Place::ExtentLine(k, j) => put_extent(sh, seg, h, k, j, at, out),
         Place::Done => Stop {
             next: Place::Done,
             end: at,

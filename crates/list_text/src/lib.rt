@@ -12,6 +12,7 @@ use answer::Verdict;
 use list_line::Stop;
 use list_place::Place;
 use segment::header::Header;
+use segment::shape::Shape;
 
 // What there is to write of a segment: its listing from the first place on, or one line of so many bytes that was put.
 pub enum Task {
@@ -35,7 +36,7 @@ pub fn fill(pairs: &[u64], seg: &[u8], place: Place, out: &mut [u8]) -> Stop
         if list_place::is_done(next) {
             return Stop { next, end };
         }
-        let stop = list_line::put_piece(seg, h, next, end, out);
+        let stop = list_line::put_piece(Shape::V3, seg, h, next, end, out);
         next = stop.next;
         end = stop.end;
     }

@@ -20,7 +20,7 @@ use Rattle.segment.specs.Tidy.{packed, headerFields, footerFields, recordsBytes
 use Rattle.form_laws.proofs.Structures.{header-long, footer-long}
 use Rattle.form_laws.proofs.Sizes.{body-length, records-long, extentBytes-long}
 use Rattle.put_form.specs.Emit.{Plan, sectionsUnder, bodyUnder}
-use Rattle.put_form.proofs.Plans.{lies}
+use Rattle.put_form.proofs.Plans.{planned}
 
 module _ (sh : Shape) (wf : Shaped sh) (h : Header) (bloom : List ℕ) (rows : List Row) (used : ℕ) (o : List ℕ) (q : Plan sh h rows used (length o))
     (e : recordsOffset h ≡ 112 + length bloom) where
@@ -37,10 +37,10 @@ module _ (sh : Shape) (wf : Shaped sh) (h : Header) (bloom : List ℕ) (rows : L
         length-append (digestSection rows) (extentBytes rows),
         records-long sh wf (h .domain) rows (digestsOffset h) (extentsOffset h),
         extentBytes-long rows,
-        lies wf q .digests,
-        lies wf q .extents,
-        lies wf q .count,
-        lies wf q .file,
+        planned wf q .digests,
+        planned wf q .extents,
+        planned wf q .count,
+        planned wf q .file,
       )
 
   pub head-room : 112 + length bloom + 24 ≤ length o
@@ -84,7 +84,7 @@ module _ (sh : Shape) (wf : Shaped sh) (t : Heading) (h : Header) (bloom : List 
   records-at = ap (λ (x : Header). recordsOffset x) e
 
   long : length o ≡ length (formBody sh t bloom rows) + 24
-  long = omega (arith, lies wf q .digests, lies wf q .extents, lies wf q .count, lies wf q .file, records-at, body-length sh wf t bloom rows)
+  long = omega (arith, planned wf q .digests, planned wf q .extents, planned wf q .count, planned wf q .file, records-at, body-length sh wf t bloom rows)
 
   same-body : bodyUnder sh h bloom rows ≡ formBody sh t bloom rows
   unfolding bodyUnder sectionsUnder formBody formHeader

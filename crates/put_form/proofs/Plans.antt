@@ -14,15 +14,15 @@ use Rattle.segment.specs.Tidy.{digestSection, extentTotal, formHeader}
 use Rattle.form_laws.proofs.Sizes.{form-length}
 use Rattle.put_form.specs.Emit.{Plan}
 
-pub record Lies (sh : Shape) (h : Header) (rows : List Row) (n : ℕ) : Type 0 where
+pub record Planned (sh : Shape) (h : Header) (rows : List Row) (n : ℕ) : Type 0 where
   pub digests : digestsOffset h ≡ recordsOffset h + sh .«record_size» * length rows
   pub extents : extentsOffset h ≡ digestsOffset h + length (digestSection rows)
   pub count : extentCount h ≡ extentTotal rows
   pub file : n ≡ extentsOffset h + 16 * extentCount h + 24
 
-pub lies : {sh : Shape} {h : Header} {rows : List Row} {used n : ℕ} → Shaped sh → Plan sh h rows used n → Lies sh h rows n
+pub planned : {sh : Shape} {h : Header} {rows : List Row} {used n : ℕ} → Shaped sh → Plan sh h rows used n → Planned sh h rows n
 unfolding formHeader
-lies {sh} {h} {rows} w q =
+planned {sh} {h} {rows} w q =
     let e = q .header in
     let x = form-length sh w (q .heading) (q .bloom) rows in
     let r : recordsOffset h ≡ 112 + length (q .bloom) = ap (λ (y : Header). recordsOffset y) e in

@@ -21,7 +21,7 @@ use Rattle.put_item.proofs.ItemRows.{row-digest}
 use Rattle.put_sections.specs.Sections.{Near, itemDigests, itemSection}
 use Rattle.put_sections.proofs.Lends.{grown, part-long}
 use Rattle.put_form.specs.Emit.{Plan, sectionsUnder}
-use Rattle.put_form.proofs.Plans.{Lies, lies}
+use Rattle.put_form.proofs.Plans.{Planned, planned}
 
 -- ---- the digests of items are those of their rows
 
@@ -38,8 +38,8 @@ module _ (kind : Kind) (bytes list extents : List ℕ) where
 -- ---- the stretches
 
 module _ (sh : Shape) (wf : Shaped sh) (h : Header) (rows : List Row) (used : ℕ) (o : List ℕ) (q : Plan sh h rows used (length o)) where
-  abbrev lie : Lies sh h rows (length o)
-  lie = lies wf q
+  abbrev told : Planned sh h rows (length o)
+  told = planned wf q
 
   abbrev records : ℕ
   records = recordsOffset h
@@ -63,11 +63,11 @@ module _ (sh : Shape) (wf : Shaped sh) (h : Header) (rows : List Row) (used : �
 
   pub places : Places
   places = record {
-    one = omega (arith, lie .digests);
-    two = omega (arith, lie .extents);
-    three = omega (arith, lie .file);
+    one = omega (arith, told .digests);
+    two = omega (arith, told .extents);
+    three = omega (arith, told .file);
     within = omega arith;
-    footer = omega (arith, lie .file);
+    footer = omega (arith, told .file);
   }
 
   front : o ≡ take records o ++ drop records o
@@ -80,14 +80,14 @@ module _ (sh : Shape) (wf : Shaped sh) (h : Header) (rows : List Row) (used : �
   pub records-room : length (take (digests - records) (drop records o)) ≡ sh .«record_size» * length rows
   records-room =
       let p = places in
-      part-long o (take records o) o records digests front front-long (p .one) (omega (arith, p .two, p .three, p .within)) ∙ omega (arith, lie .digests)
+      part-long o (take records o) o records digests front front-long (p .one) (omega (arith, p .two, p .three, p .within)) ∙ omega (arith, told .digests)
 
   module _ (a : List ℕ) (ea : a ≡ recordsBytes sh (h .domain) rows digests extents) where
     abbrev w₁ : List ℕ
     w₁ = putMid records (digests - records) o a
 
     a-long : length a ≡ digests - records
-    a-long = ap length ea ∙ records-long sh wf (h .domain) rows digests extents ∙ omega (arith, lie .digests)
+    a-long = ap length ea ∙ records-long sh wf (h .domain) rows digests extents ∙ omega (arith, told .digests)
 
     done₁ : w₁ ≡ (take records o ++ a) ++ drop digests o
     done₁ = grown o (take records o) a o records digests front front-long (places .one)
@@ -100,14 +100,14 @@ module _ (sh : Shape) (wf : Shaped sh) (h : Header) (rows : List Row) (used : �
     digests-room =
         let p = places in
         part-long o (take records o ++ a) w₁ digests extents done₁ long₁ (p .two) (omega (arith, p .three, p .within))
-        ∙ rw (q .filled) (omega (arith, lie .extents, section-long rows))
+        ∙ rw (q .filled) (omega (arith, told .extents, section-long rows))
 
     module _ (b : List ℕ) (eb : b ≡ digestSection rows) where
       abbrev w₂ : List ℕ
       w₂ = putMid digests (extents - digests) w₁ b
 
       b-long : length b ≡ extents - digests
-      b-long = ap length eb ∙ omega (arith, lie .extents)
+      b-long = ap length eb ∙ omega (arith, told .extents)
 
       done₂ : w₂ ≡ ((take records o ++ a) ++ b) ++ drop extents o
       done₂ = grown o (take records o ++ a) b w₁ digests extents done₁ long₁ (places .two)
@@ -120,12 +120,12 @@ module _ (sh : Shape) (wf : Shaped sh) (h : Header) (rows : List Row) (used : �
       extents-room =
           let p = places in
           part-long o ((take records o ++ a) ++ b) w₂ extents end done₂ long₂ (p .three) (p .within)
-          ∙ omega (arith, lie .file, lie .count, extentBytes-long rows)
+          ∙ omega (arith, told .file, told .count, extentBytes-long rows)
 
       pub sections-done : (c : List ℕ) → c ≡ extentBytes rows → putMid extents (end - extents) w₂ c ≡ put o records (sectionsUnder sh h rows)
       unfolding put sectionsUnder
       sections-done c ec =
-          let c-long : length c ≡ end - extents = ap length ec ∙ omega (arith, lie .file, lie .count, extentBytes-long rows) in
+          let c-long : length c ≡ end - extents = ap length ec ∙ omega (arith, told .file, told .count, extentBytes-long rows) in
           let whole : List ℕ = a ++ (b ++ c) in
           let e : records + length whole ≡ end = omega (arith, length-append a (b ++ c), length-append b c, a-long, b-long, c-long, places) in
           let f : ((take records o ++ a) ++ b) ++ c ≡ take records o ++ whole = append-assoc (take records o ++ a) b c ∙ append-assoc (take records o) a (b ++ c) in
@@ -144,8 +144,8 @@ module _ (sh : Shape) (wf : Shaped sh) (h : Header) (kind : Kind) (bytes list ex
   pub near : Near h numbers
   near = record {
     few = omega (arith, q .few, rows-many);
-    digests = omega (arith, lies wf q .extents, lies wf q .file, q .limit);
-    extents = omega (arith, lies wf q .file, q .limit);
+    digests = omega (arith, planned wf q .extents, planned wf q .file, q .limit);
+    extents = omega (arith, planned wf q .file, q .limit);
   }
 
   pub many : sh .«record_size» * length (itemRows kind bytes list extents numbers) ≡ sh .«record_size» * length numbers
