@@ -5,14 +5,14 @@
 #include <stdint.h>
 
 #ifndef NAME
-#define NAME(x) asl_##x
+#define NAME(x) asl_raw_##x
 #endif
 #ifndef STRIDE
 #define STRIDE 8
 #endif
 
 // The sizes of the four structures, and where their fields stand in them.
-enum { HEADER = 112, RECORD = 48, EXTENT = ASL_EXTENT_SIZE, FOOTER = 24 };
+enum { HEADER = 112, RECORD = 48, EXTENT = 16, FOOTER = 24 };
 enum {
     H_MAGIC = 0,
     H_VERSION = 8,

@@ -12,6 +12,8 @@ static void *allocate(size_t count, size_t size) {
 
 // The store's table -------------------------------------------------------------------------------------------------
 
+enum { PAIR = 16 }; // bytes of a pair as it is lent
+
 struct table {
     size_t pairs;
     uint32_t hash_id[ASL_PAIRS_LIMIT];
@@ -33,8 +35,8 @@ static int allows(const struct table *t, uint64_t hash_id, uint64_t length) {
 // Whether the bytes are a table, which is then in *t.
 static int read_table(struct table *t, const uint8_t *bytes, size_t size) {
     t->pairs = 0;
-    if (size == 0 || size % ASL_PAIR_SIZE != 0 || size > ASL_PAIRS_LIMIT * ASL_PAIR_SIZE) return 0;
-    for (size_t at = 0; at < size; at += ASL_PAIR_SIZE) {
+    if (size == 0 || size % PAIR != 0 || size > ASL_PAIRS_LIMIT * PAIR) return 0;
+    for (size_t at = 0; at < size; at += PAIR) {
         uint64_t hash_id = get64(bytes + at), length = get64(bytes + at + 8);
         if (hash_id > U32_MOST || length < 1 || length > ASL_DIGEST_LIMIT) return 0;
         if (pair_of(t, hash_id) < t->pairs) return 0;
@@ -50,7 +52,7 @@ static int read_table(struct table *t, const uint8_t *bytes, size_t size) {
 struct item {
     const uint8_t *digest;
     const uint8_t *in_segment;
-    const uint64_t *in_list;
+    const asl_extent *in_list;
     uint32_t hash_id, source, extent_count, total;
     uint16_t digest_length;
     uint8_t visibility, imported, gone;

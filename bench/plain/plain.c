@@ -1,18 +1,15 @@
-// The four services of asl.h in plain C, written from document 01 alone: a yardstick for the speed of the library, and
-// a third opinion beside it and tests/independent/asl.py. It allocates where the library does not, and aborts where
-// there is no memory, since document 01 has no refusal for that.
+// The raw calls of asl.h in plain C, written from document 01 alone: a yardstick for the speed of the library, and a
+// third opinion beside it and tests/independent/asl.py. It allocates where the library does not, and aborts where there
+// is no memory, since document 01 has no refusal for that.
 //
 // NAME gives the functions their names: those of asl.h by default, so that this links in the library's place. Compiled
 // with -D'NAME(x)=plain_##x' it links beside it. NAME(crc64) is its checksum, which takes eight bytes at a step, or one
 // with -DSTRIDE=1, as the library's plain engine does.
 #include "items.h"
 
-struct verdict {
-    uint64_t number, place;
-};
-
-static struct verdict refusal(uint64_t number, uint64_t place) { return (struct verdict){number, place}; }
-static struct verdict accepted(void) { return refusal(ASL_OK, 0); }
+static asl_answer answered(uint64_t value) { return (asl_answer){value << 16}; }
+static asl_answer refusal(uint64_t number, uint64_t place) { return (asl_answer){number | place << 16}; }
+static asl_answer accepted(void) { return answered(0); }
 
 // Reading a segment -------------------------------------------------------------------------------------------------
 
@@ -34,12 +31,12 @@ static int laid_out(const struct segment *s) {
 
 // Refusals 1 to 6; *s is the segment if there is none.
 static uint64_t read_segment(struct segment *s, const uint8_t *bytes, size_t size) {
-    if (size < ASL_LEAST || size > ASL_LIMIT) return ASL_SIZE;
-    if (memcmp(bytes + H_MAGIC, MAGIC, sizeof MAGIC) != 0) return ASL_MAGIC;
-    if (get16(bytes + H_VERSION) != ASL_FORMAT_VERSION) return ASL_VERSION;
+    if (size < ASL_LEAST || size > ASL_LIMIT) return ASL_REFUSED_SIZE;
+    if (memcmp(bytes + H_MAGIC, MAGIC, sizeof MAGIC) != 0) return ASL_REFUSED_MAGIC;
+    if (get16(bytes + H_VERSION) != ASL_FORMAT_VERSION) return ASL_REFUSED_VERSION;
     if (get32(bytes + H_HEADER_SIZE) != HEADER || bytes[H_VISIBILITY] > 1 || bytes[H_FEDERATION] != 0 ||
         get16(bytes + H_RESERVED) != 0 || get64(bytes + H_FLAGS) != 0)
-        return ASL_HEADER;
+        return ASL_REFUSED_HEADER;
     *s = (struct segment){
         .bytes = bytes,
         .size = size,
@@ -54,8 +51,8 @@ static uint64_t read_segment(struct segment *s, const uint8_t *bytes, size_t siz
         .domain = get32(bytes + H_DOMAIN),
         .visibility = bytes[H_VISIBILITY],
     };
-    if (!laid_out(s)) return ASL_LAYOUT;
-    if (get64(bytes + size - FOOTER + F_CRC64) != NAME(crc64)(bytes, size - FOOTER)) return ASL_CHECKSUM;
+    if (!laid_out(s)) return ASL_REFUSED_LAYOUT;
+    if (get64(bytes + size - FOOTER + F_CRC64) != NAME(crc64)(bytes, size - FOOTER)) return ASL_REFUSED_CHECKSUM;
     return ASL_OK;
 }
 
@@ -85,18 +82,18 @@ static uint64_t record_refusal(const struct segment *s, const struct table *t, c
              count = get32(r + R_EXTENT_COUNT);
     if (get16(r + R_RESERVED) != 0 || get16(r + R_RESERVED_LAST) != 0 || flags > GONE || r[R_VISIBILITY] > 1 ||
         r[R_IMPORTED] > 1 || (r[R_IMPORTED] == 0 && source != 0) || get32(r + R_DOMAIN) != s->domain)
-        return ASL_RECORD;
+        return ASL_REFUSED_RECORD;
     if (!allows(t, get32(r + R_HASH_ID), digest_length) ||
         !lies_in(get64(r + R_DIGEST_OFFSET), digest_length, s->digests, s->digests_size))
-        return ASL_DIGEST;
+        return ASL_REFUSED_DIGEST;
     if (flags == GONE) {
-        if (extents != 0 || count != 0) return ASL_EXTENTS;
-        return total == 0 ? ASL_OK : ASL_TOTAL;
+        if (extents != 0 || count != 0) return ASL_REFUSED_EXTENTS;
+        return total == 0 ? ASL_OK : ASL_REFUSED_TOTAL;
     }
     if (count == 0 || !lies_in(extents, EXTENT * count, s->extents, EXTENT * s->extent_count) ||
         (extents - s->extents) % EXTENT != 0)
-        return ASL_EXTENTS;
-    return adds_up(s->bytes + extents, count, total) ? ASL_OK : ASL_TOTAL;
+        return ASL_REFUSED_EXTENTS;
+    return adds_up(s->bytes + extents, count, total) ? ASL_OK : ASL_REFUSED_TOTAL;
 }
 
 // The record at r, whose rules were tested.
@@ -122,7 +119,7 @@ static struct item *record_items(const struct segment *s) {
 }
 
 // Refusals 7 to 12. Only where keys do not ascend can there be a duplicate.
-static struct verdict check_records(const struct segment *s, const struct table *t) {
+static asl_answer check_records(const struct segment *s, const struct table *t) {
     struct item before = {0};
     int ascending = 1;
     uint8_t visibility = 0;
@@ -135,16 +132,16 @@ static struct verdict check_records(const struct segment *s, const struct table 
         if (item.visibility > visibility) visibility = item.visibility;
         before = item;
     }
-    if (visibility != s->visibility) return refusal(ASL_VISIBILITY, 0);
+    if (visibility != s->visibility) return refusal(ASL_REFUSED_VISIBILITY, 0);
     if (ascending) return accepted();
     struct item *items = record_items(s);
     size_t repeat = first_repeat(items, s->record_count);
     free(items);
-    return repeat < s->record_count ? refusal(ASL_DUPLICATE, repeat) : accepted();
+    return repeat < s->record_count ? refusal(ASL_REFUSED_DUPLICATE, repeat) : accepted();
 }
 
 // The whole check, but for the table.
-static struct verdict check_segment(struct segment *s, const struct table *t, const uint8_t *bytes, size_t size) {
+static asl_answer check_segment(struct segment *s, const struct table *t, const uint8_t *bytes, size_t size) {
     uint64_t refused = read_segment(s, bytes, size);
     return refused ? refusal(refused, 0) : check_records(s, t);
 }
@@ -166,8 +163,8 @@ struct places {
 };
 
 // None of these sums can wrap: there are at most 65,536 items, each with fewer than 2^32 extents.
-static struct places places_of(const struct heading *h, const struct item *items, size_t count) {
-    struct places p = {.records = HEADER + h->bloom_size};
+static struct places places_of(uint64_t bloom_size, const struct item *items, size_t count) {
+    struct places p = {.records = HEADER + bloom_size};
     uint64_t extents = 0;
     p.digests = p.records + RECORD * count;
     for (size_t i = 0; i < count; i++) {
@@ -178,6 +175,11 @@ static struct places places_of(const struct heading *h, const struct item *items
     p.footer = p.extents + EXTENT * extents;
     p.length = p.footer + FOOTER;
     return p;
+}
+
+// Refusal 16 for the size, or the length.
+static asl_answer measured(const struct places *p) {
+    return p->length > ASL_LIMIT ? refusal(ASL_REFUSED_LARGE, 0) : answered(p->length);
 }
 
 static void put_header(uint8_t *out, const struct heading *h, const struct places *p, size_t count,
@@ -222,11 +224,11 @@ static void put_extents(uint8_t *out, const struct item *item) {
         memcpy(out, item->in_segment, (size_t)EXTENT * item->extent_count);
         return;
     }
-    const uint64_t *extent = item->in_list;
-    for (uint32_t i = 0; i < item->extent_count; i++, extent += ASL_EXTENT_NUMBERS, out += EXTENT) {
-        put64(out + X_BLOCK, extent[ASL_EXTENT_BLOCK]);
-        put32(out + X_OFFSET, (uint32_t)extent[ASL_EXTENT_OFFSET]);
-        put32(out + X_LENGTH, (uint32_t)extent[ASL_EXTENT_LENGTH]);
+    const asl_extent *extent = item->in_list;
+    for (uint32_t i = 0; i < item->extent_count; i++, extent++, out += EXTENT) {
+        put64(out + X_BLOCK, extent->block);
+        put32(out + X_OFFSET, (uint32_t)extent->offset);
+        put32(out + X_LENGTH, (uint32_t)extent->length);
     }
 }
 
@@ -252,15 +254,14 @@ static void put_segment(uint8_t *out, const struct heading *h, const struct item
 }
 
 // The tidy form of the items, which it sorts: refusals 16 for the size and 13, or the result.
-static uint64_t finish(const struct heading *h, struct item *items, size_t count, uint8_t *out, size_t out_size,
-                       uint64_t *length) {
-    struct places p = places_of(h, items, count);
-    if (p.length > ASL_LIMIT) return ASL_LARGE;
-    if (p.length > out_size) return ASL_ROOM;
+static asl_answer finish(const struct heading *h, struct item *items, size_t count, uint8_t *out, size_t out_size) {
+    struct places p = places_of(h->bloom_size, items, count);
+    asl_answer a = measured(&p);
+    if (!asl_ok(a)) return a;
+    if (p.length > out_size) return refusal(ASL_REFUSED_ROOM, 0);
     if (!ascend(items, count)) qsort(items, count, sizeof *items, compare_for_qsort);
     put_segment(out, h, items, count, &p);
-    *length = p.length;
-    return ASL_OK;
+    return a;
 }
 
 // What write is lent ------------------------------------------------------------------------------------------------
@@ -268,118 +269,153 @@ static uint64_t finish(const struct heading *h, struct item *items, size_t count
 struct lists {
     const uint8_t *digests;
     uint64_t digests_size;
-    const uint64_t *extents;
+    const asl_extent *extents;
     uint64_t extent_count;
 };
+
+// How many numbers of a flat list make an entry, and an extent.
+enum { ENTRY_NUMBERS = sizeof(asl_entry) / sizeof(uint64_t), EXTENT_NUMBERS = sizeof(asl_extent) / sizeof(uint64_t) };
 
 static int passes(uint64_t start, uint64_t count, uint64_t end) { return start > end || count > end - start; }
 
 // Whether the extents of a list keep their rule, and their sum, then in *total, fits.
-static int sums_up(const uint64_t *extent, uint64_t count, uint32_t *total) {
+static int sums_up(const asl_extent *extent, uint64_t count, uint32_t *total) {
     uint64_t sum = 0;
-    for (; count > 0; count--, extent += ASL_EXTENT_NUMBERS) {
-        uint64_t offset = extent[ASL_EXTENT_OFFSET], length = extent[ASL_EXTENT_LENGTH];
-        if (offset > U32_MOST || length > U32_MOST || offset + length > EXTENT_END_MOST) return 0;
-        sum += length;
+    for (; count > 0; count--, extent++) {
+        if (extent->offset > U32_MOST || extent->length > U32_MOST) return 0;
+        if (extent->offset + extent->length > EXTENT_END_MOST) return 0;
+        sum += extent->length;
     }
     *total = (uint32_t)sum;
     return sum <= U32_MOST;
 }
 
 // Refusals 7, 15, 8, 9, 10 of the entry e; *item is the entry if there is none.
-static uint64_t read_entry(const struct lists *l, const struct table *t, const uint64_t *e, struct item *item) {
-    uint64_t first = e[ASL_ENTRY_FIRST_EXTENT], count = e[ASL_ENTRY_EXTENT_COUNT];
-    if (e[ASL_ENTRY_VISIBILITY] > 1 || e[ASL_ENTRY_IMPORTED] > 1 || e[ASL_ENTRY_GONE] > 1 ||
-        e[ASL_ENTRY_SOURCE] > U32_MOST || (e[ASL_ENTRY_IMPORTED] == 0 && e[ASL_ENTRY_SOURCE] != 0))
-        return ASL_RECORD;
-    if (passes(e[ASL_ENTRY_DIGEST_START], e[ASL_ENTRY_DIGEST_LENGTH], l->digests_size) ||
-        passes(first, count, l->extent_count))
-        return ASL_LIST;
-    if (!allows(t, e[ASL_ENTRY_HASH_ID], e[ASL_ENTRY_DIGEST_LENGTH])) return ASL_DIGEST;
-    if (e[ASL_ENTRY_GONE] ? first != 0 || count != 0 : count == 0 || count > U32_MOST) return ASL_EXTENTS;
+static uint64_t read_entry(const struct lists *l, const struct table *t, const asl_entry *e, struct item *item) {
+    if (e->visibility > 1 || e->imported > 1 || e->gone > 1 || e->source > U32_MOST ||
+        (e->imported == 0 && e->source != 0))
+        return ASL_REFUSED_RECORD;
+    if (passes(e->digest_start, e->digest_length, l->digests_size) ||
+        passes(e->first_extent, e->extent_count, l->extent_count))
+        return ASL_REFUSED_LIST;
+    if (!allows(t, e->hash_id, e->digest_length)) return ASL_REFUSED_DIGEST;
+    if (e->gone ? e->first_extent != 0 || e->extent_count != 0 : e->extent_count == 0 || e->extent_count > U32_MOST)
+        return ASL_REFUSED_EXTENTS;
     *item = (struct item){
-        .digest = l->digests + e[ASL_ENTRY_DIGEST_START],
-        .in_list = count ? l->extents + ASL_EXTENT_NUMBERS * first : NULL,
-        .hash_id = (uint32_t)e[ASL_ENTRY_HASH_ID],
-        .source = (uint32_t)e[ASL_ENTRY_SOURCE],
-        .extent_count = (uint32_t)count,
-        .digest_length = (uint16_t)e[ASL_ENTRY_DIGEST_LENGTH],
-        .visibility = (uint8_t)e[ASL_ENTRY_VISIBILITY],
-        .imported = (uint8_t)e[ASL_ENTRY_IMPORTED],
-        .gone = (uint8_t)e[ASL_ENTRY_GONE],
+        .digest = l->digests + e->digest_start,
+        .in_list = e->gone ? NULL : l->extents + e->first_extent,
+        .hash_id = (uint32_t)e->hash_id,
+        .source = (uint32_t)e->source,
+        .extent_count = (uint32_t)e->extent_count,
+        .digest_length = (uint16_t)e->digest_length,
+        .visibility = (uint8_t)e->visibility,
+        .imported = (uint8_t)e->imported,
+        .gone = (uint8_t)e->gone,
     };
-    return sums_up(item->in_list, count, &item->total) ? ASL_OK : ASL_TOTAL;
+    return sums_up(item->in_list, e->extent_count, &item->total) ? ASL_OK : ASL_REFUSED_TOTAL;
 }
 
 // Refusals 7 to 10, 12 and 15 of the entries, which are in items if there is none.
-static struct verdict read_entries(const struct lists *l, const struct table *t, const uint64_t *entries,
-                                   struct item *items, size_t count) {
+static asl_answer read_entries(const struct lists *l, const struct table *t, const asl_entry *entries,
+                               struct item *items, size_t count) {
     for (size_t i = 0; i < count; i++) {
-        uint64_t refused = read_entry(l, t, entries + ASL_ENTRY_NUMBERS * i, &items[i]);
+        uint64_t refused = read_entry(l, t, &entries[i], &items[i]);
         if (refused) return refusal(refused, i);
     }
     if (ascend(items, count)) return accepted();
     size_t repeat = first_repeat(items, count);
-    return repeat < count ? refusal(ASL_DUPLICATE, repeat) : accepted();
+    return repeat < count ? refusal(ASL_REFUSED_DUPLICATE, repeat) : accepted();
 }
 
 // The services ------------------------------------------------------------------------------------------------------
 
-uint64_t NAME(check)(const uint8_t *table, size_t table_size, const uint8_t *segment, size_t segment_size,
-                     uint64_t *place) {
+// The whole check, table and segment; *s is the segment if it is accepted.
+static asl_answer check_both(struct segment *s, const uint8_t *table, size_t table_size, const uint8_t *segment,
+                             size_t segment_size) {
     struct table t;
-    struct segment s;
-    *place = 0;
-    if (!read_table(&t, table, table_size)) return ASL_TABLE;
-    struct verdict v = check_segment(&s, &t, segment, segment_size);
-    *place = v.place;
-    return v.number;
+    if (!read_table(&t, table, table_size)) return refusal(ASL_REFUSED_TABLE, 0);
+    return check_segment(s, &t, segment, segment_size);
 }
 
-static void answer(uint64_t *found, const struct segment *s, const uint8_t *r) {
-    found[ASL_FOUND_STATE] = get32(r + R_FLAGS) == GONE ? ASL_STATE_GONE : ASL_STATE_PRESENT;
-    found[ASL_FOUND_VISIBILITY] = r[R_VISIBILITY];
-    found[ASL_FOUND_DOMAIN] = s->domain;
-    found[ASL_FOUND_IMPORTED] = r[R_IMPORTED];
-    found[ASL_FOUND_SOURCE] = get32(r + R_SOURCE);
-    // A gone record has 0 in all three.
-    found[ASL_FOUND_TOTAL] = get32(r + R_TOTAL);
-    found[ASL_FOUND_EXTENTS_START] = get64(r + R_EXTENTS_OFFSET);
-    found[ASL_FOUND_EXTENTS_COUNT] = get32(r + R_EXTENT_COUNT);
+asl_answer NAME(check)(const uint8_t *table, size_t table_size, const uint8_t *segment, size_t segment_size) {
+    struct segment s;
+    return check_both(&s, table, table_size, segment, segment_size);
 }
 
-uint64_t NAME(look_up)(const uint8_t *table, size_t table_size, const uint8_t *segment, size_t segment_size,
-                       uint64_t hash_id, const uint8_t *digest, size_t digest_size, uint64_t *found, size_t found_count,
-                       uint64_t *place) {
-    struct table t;
-    struct segment s;
-    *place = 0;
-    if (!read_table(&t, table, table_size)) return ASL_TABLE;
-    if (!allows(&t, hash_id, digest_size)) return ASL_KEY;
-    struct verdict v = check_segment(&s, &t, segment, segment_size);
-    *place = v.place;
-    if (v.number) return v.number;
-    if (found_count < ASL_FOUND_NUMBERS) return ASL_ROOM;
-    memset(found, 0, ASL_FOUND_NUMBERS * sizeof *found);
-    for (uint64_t i = 0; i < s.record_count; i++) {
-        const uint8_t *r = record_at(&s, i);
-        if (get32(r + R_HASH_ID) == hash_id && memcmp(segment + get64(r + R_DIGEST_OFFSET), digest, digest_size) == 0) {
-            answer(found, &s, r);
-            break;
-        }
+// Numbers, eight bytes to each.
+static void put_numbers(uint8_t *at, const uint64_t *numbers, size_t count) {
+    for (size_t i = 0; i < count; i++) put64(at + 8 * i, numbers[i]);
+}
+
+// The record with that key, or NULL.
+static const uint8_t *record_of(const struct segment *s, uint64_t hash_id, const uint8_t *digest, size_t digest_size) {
+    for (uint64_t i = 0; i < s->record_count; i++) {
+        const uint8_t *r = record_at(s, i);
+        if (get32(r + R_HASH_ID) == hash_id && memcmp(s->bytes + get64(r + R_DIGEST_OFFSET), digest, digest_size) == 0)
+            return r;
     }
-    return ASL_OK;
+    return NULL;
 }
 
-uint64_t NAME(tidy)(const uint8_t *table, size_t table_size, const uint8_t *segment, size_t segment_size, uint8_t *out,
-                    size_t out_size, uint64_t *length, uint64_t *place) {
+asl_answer NAME(look_up)(const uint8_t *table, size_t table_size, const uint8_t *segment, size_t segment_size,
+                         uint64_t hash_id, const uint8_t *digest, size_t digest_size, uint8_t *found,
+                         size_t found_size) {
     struct table t;
     struct segment s;
-    *place = 0;
-    if (!read_table(&t, table, table_size)) return ASL_TABLE;
-    struct verdict v = check_segment(&s, &t, segment, segment_size);
-    *place = v.place;
-    if (v.number) return v.number;
+    uint64_t numbers[8] = {ASL_STATE_ABSENT};
+    if (!read_table(&t, table, table_size)) return refusal(ASL_REFUSED_TABLE, 0);
+    if (!allows(&t, hash_id, digest_size)) return refusal(ASL_REFUSED_KEY, 0);
+    asl_answer a = check_segment(&s, &t, segment, segment_size);
+    if (!asl_ok(a)) return a;
+    if (found_size < sizeof numbers) return refusal(ASL_REFUSED_ROOM, 0);
+    const uint8_t *r = record_of(&s, hash_id, digest, digest_size);
+    if (r) {
+        numbers[0] = get32(r + R_FLAGS) == GONE ? ASL_STATE_GONE : ASL_STATE_PRESENT;
+        numbers[1] = r[R_VISIBILITY];
+        numbers[2] = s.domain;
+        numbers[3] = r[R_IMPORTED];
+        numbers[4] = get32(r + R_SOURCE);
+        // A gone record has 0 in all three.
+        numbers[5] = get32(r + R_TOTAL);
+        numbers[6] = get64(r + R_EXTENTS_OFFSET);
+        numbers[7] = get32(r + R_EXTENT_COUNT);
+    }
+    put_numbers(found, numbers, 8);
+    return answered(numbers[0]);
+}
+
+asl_answer NAME(step)(const uint8_t *table, size_t table_size, const uint8_t *segment, size_t segment_size,
+                      uint64_t record, uint8_t *fields, size_t fields_size) {
+    struct segment s;
+    asl_answer a = check_both(&s, table, table_size, segment, segment_size);
+    if (!asl_ok(a)) return a;
+    if (record >= s.record_count) return answered(ASL_STEP_DONE);
+    const uint8_t *r = record_at(&s, record);
+    uint64_t numbers[13] = {
+        get32(r + R_HASH_ID), get16(r + R_DIGEST_LENGTH), get16(r + R_RESERVED), get64(r + R_DIGEST_OFFSET),
+        get64(r + R_EXTENTS_OFFSET), get32(r + R_EXTENT_COUNT), get32(r + R_TOTAL), get32(r + R_DOMAIN),
+        r[R_VISIBILITY], r[R_IMPORTED], get16(r + R_RESERVED_LAST), get32(r + R_SOURCE), get32(r + R_FLAGS),
+    };
+    if (fields_size < sizeof numbers) return refusal(ASL_REFUSED_ROOM, 0);
+    put_numbers(fields, numbers, 13);
+    return answered(ASL_STEP_RECORD);
+}
+
+asl_answer NAME(tidy_length)(const uint8_t *table, size_t table_size, const uint8_t *segment, size_t segment_size) {
+    struct segment s;
+    asl_answer a = check_both(&s, table, table_size, segment, segment_size);
+    if (!asl_ok(a)) return a;
+    struct item *items = record_items(&s);
+    struct places p = places_of(s.bloom_size, items, s.record_count);
+    free(items);
+    return measured(&p);
+}
+
+asl_answer NAME(tidy)(const uint8_t *table, size_t table_size, const uint8_t *segment, size_t segment_size,
+                      uint8_t *out, size_t out_size) {
+    struct segment s;
+    asl_answer a = check_both(&s, table, table_size, segment, segment_size);
+    if (!asl_ok(a)) return a;
     const uint8_t *footer = segment + segment_size - FOOTER;
     struct heading h = {get16(segment + H_SHARD),
                         get64(segment + H_SNAPSHOT_MIN),
@@ -390,28 +426,29 @@ uint64_t NAME(tidy)(const uint8_t *table, size_t table_size, const uint8_t *segm
                         segment + HEADER,
                         s.bloom_size};
     struct item *items = record_items(&s);
-    uint64_t refused = finish(&h, items, s.record_count, out, out_size, length);
+    a = finish(&h, items, s.record_count, out, out_size);
     free(items);
-    return refused;
+    return a;
 }
 
-uint64_t NAME(write)(const uint8_t *table, size_t table_size, uint16_t shard, uint64_t snapshot_min,
-                     uint64_t snapshot_max, uint32_t domain, uint64_t seal_snapshot, uint64_t seal_time,
-                     const uint8_t *bloom, size_t bloom_size, const uint64_t *entries, size_t entries_count,
-                     const uint8_t *digests, size_t digests_size, const uint64_t *extents, size_t extents_count,
-                     uint8_t *out, size_t out_size, uint64_t *length, uint64_t *place) {
+// The lists are lent as numbers; those of an item lie as in its struct.
+asl_answer NAME(write)(const uint8_t *table, size_t table_size, uint16_t shard, uint64_t snapshot_min,
+                       uint64_t snapshot_max, uint32_t domain, uint64_t seal_snapshot, uint64_t seal_time,
+                       const uint8_t *bloom, size_t bloom_size, const uint64_t *entries, size_t entries_count,
+                       const uint8_t *digests, size_t digests_size, const uint64_t *extents, size_t extents_count,
+                       uint8_t *out, size_t out_size) {
     struct table t;
     struct heading h = {shard, snapshot_min, snapshot_max, domain, seal_snapshot, seal_time, bloom, bloom_size};
-    struct lists l = {digests, digests_size, extents, extents_count / ASL_EXTENT_NUMBERS};
-    size_t count = entries_count / ASL_ENTRY_NUMBERS;
-    *place = 0;
-    if (!read_table(&t, table, table_size)) return ASL_TABLE;
-    if (count > ASL_RECORDS_LIMIT) return ASL_LARGE;
-    if (bloom_size % 8 != 0) return ASL_LAYOUT;
+    struct lists l = {digests, digests_size, (const asl_extent *)extents, extents_count / EXTENT_NUMBERS};
+    size_t count = entries_count / ENTRY_NUMBERS;
+    if (!read_table(&t, table, table_size)) return refusal(ASL_REFUSED_TABLE, 0);
+    if (count > ASL_RECORDS_LIMIT) return refusal(ASL_REFUSED_LARGE, 0);
+    if (bloom_size % 8 != 0) return refusal(ASL_REFUSED_LAYOUT, 0);
     struct item *items = allocate(count, sizeof *items);
-    struct verdict v = read_entries(&l, &t, entries, items, count);
-    *place = v.place;
-    if (!v.number) v.number = finish(&h, items, count, out, out_size, length);
+    asl_answer a = read_entries(&l, &t, (const asl_entry *)entries, items, count);
+    if (asl_ok(a)) a = finish(&h, items, count, out, out_size);
     free(items);
-    return v.number;
+    return a;
 }
+
+uint64_t NAME(version)(void) { return ASL_VERSION; }

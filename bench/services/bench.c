@@ -17,44 +17,46 @@
 
 /* The functions of one of the three. */
 struct services {
-    uint64_t (*check)(const uint8_t *, size_t, const uint8_t *, size_t, uint64_t *);
-    uint64_t (*look_up)(const uint8_t *, size_t, const uint8_t *, size_t, uint64_t, const uint8_t *, size_t, uint64_t *,
-                        size_t, uint64_t *);
-    uint64_t (*tidy)(const uint8_t *, size_t, const uint8_t *, size_t, uint8_t *, size_t, uint64_t *, uint64_t *);
-    uint64_t (*write)(const uint8_t *, size_t, uint16_t, uint64_t, uint64_t, uint32_t, uint64_t, uint64_t,
-                      const uint8_t *, size_t, const uint64_t *, size_t, const uint8_t *, size_t, const uint64_t *,
-                      size_t, uint8_t *, size_t, uint64_t *, uint64_t *);
+    __typeof__(asl_raw_check) *check;
+    __typeof__(asl_raw_look_up) *look_up;
+    __typeof__(asl_raw_step) *step;
+    __typeof__(asl_raw_tidy_length) *tidy_length;
+    __typeof__(asl_raw_tidy) *tidy;
+    __typeof__(asl_raw_write) *write;
     uint64_t (*checksum)(const uint8_t *, size_t);
 };
 
-#define DECLARED(name)                                                                                                 \
-    uint64_t name##_check(const uint8_t *, size_t, const uint8_t *, size_t, uint64_t *);                               \
-    uint64_t name##_look_up(const uint8_t *, size_t, const uint8_t *, size_t, uint64_t, const uint8_t *, size_t,       \
-                            uint64_t *, size_t, uint64_t *);                                                           \
-    uint64_t name##_tidy(const uint8_t *, size_t, const uint8_t *, size_t, uint8_t *, size_t, uint64_t *, uint64_t *); \
-    uint64_t name##_write(const uint8_t *, size_t, uint16_t, uint64_t, uint64_t, uint32_t, uint64_t, uint64_t,         \
-                          const uint8_t *, size_t, const uint64_t *, size_t, const uint8_t *, size_t,                  \
-                          const uint64_t *, size_t, uint8_t *, size_t, uint64_t *, uint64_t *);                        \
+#define DECLARED(name)                                         \
+    extern __typeof__(asl_raw_check) name##_check;             \
+    extern __typeof__(asl_raw_look_up) name##_look_up;         \
+    extern __typeof__(asl_raw_step) name##_step;               \
+    extern __typeof__(asl_raw_tidy_length) name##_tidy_length; \
+    extern __typeof__(asl_raw_tidy) name##_tidy;               \
+    extern __typeof__(asl_raw_write) name##_write;             \
     uint64_t name##_crc64(const uint8_t *, size_t);
 DECLARED(by_one)
 DECLARED(by_eight)
 uint64_t crc64_plain(const uint8_t *, size_t); /* the library's engine */
 
 enum { LIBRARY, BY_ONE, BY_EIGHT, SIDES };
+#define SERVICES_OF(name, checksum) \
+    {name##_check, name##_look_up, name##_step, name##_tidy_length, name##_tidy, name##_write, checksum}
 static const struct services SERVICES[SIDES] = {
-    {asl_check, asl_look_up, asl_tidy, asl_write, crc64_plain},
-    {by_one_check, by_one_look_up, by_one_tidy, by_one_write, by_one_crc64},
-    {by_eight_check, by_eight_look_up, by_eight_tidy, by_eight_write, by_eight_crc64},
+    SERVICES_OF(asl_raw, crc64_plain),
+    SERVICES_OF(by_one, by_one_crc64),
+    SERVICES_OF(by_eight, by_eight_crc64),
 };
 
-enum { DIGEST = 32, HEADER = 112, RECORD = 48, FOOTER = 24, EXTENTS_MOST = 8, ROUNDS_MOST = 400 };
-static const uint64_t PAIRS[] = {1, DIGEST};
+enum { DIGEST = 32, EXTENTS_MOST = 8, ROUNDS_MOST = 400 };
+static const asl_pair PAIRS[] = {{1, DIGEST}};
+static const uint8_t *const TABLE = (const uint8_t *)PAIRS;
 static const double ROUND_SECONDS = 1.2; /* how long the rounds of one line may take in all */
 
 /* What write is lent, and the segment under test. */
 struct job {
-    size_t records, entries_count, digests_size, extents_count, size, room;
-    uint64_t *entries, *extents;
+    size_t records, extent_count, digests_size, size, room;
+    asl_entry *entries;
+    asl_extent *extents;
     uint8_t *digests, *segment, *out;
 };
 
@@ -80,67 +82,74 @@ static void must(int good, const char *what) {
     exit(1);
 }
 
-static uint64_t write_with(int side, struct job *j, uint64_t *length) {
-    uint64_t place = 0;
-    return SERVICES[side].write((const uint8_t *)PAIRS, sizeof PAIRS, 1, 2, 3, 4, 5, 6, NULL, 0, j->entries,
-                                j->entries_count, j->digests, j->digests_size, j->extents, j->extents_count, j->out,
-                                j->room, length, &place);
+/* The raw call: the lists are counted in numbers. */
+static asl_answer write_with(int side, struct job *j) {
+    size_t entries_count = j->records * (sizeof *j->entries / 8);
+    size_t extents_count = j->extent_count * (sizeof *j->extents / 8);
+    return SERVICES[side].write(TABLE, sizeof PAIRS, 1, 2, 3, 4, 5, 6, NULL, 0, (const uint64_t *)j->entries,
+                                entries_count, j->digests, j->digests_size, (const uint64_t *)j->extents,
+                                extents_count, j->out, j->room);
+}
+
+/* The library writes the segment as it stands in the job. */
+static void must_write(struct job *j, const char *otherwise) {
+    asl_answer a = write_with(LIBRARY, j);
+    must(asl_ok(a) && asl_length(a) == j->size && !memcmp(j->segment, j->out, j->size), otherwise);
 }
 
 static void put_entry(struct job *j, size_t k, size_t first, size_t count) {
-    uint64_t *e = j->entries + ASL_ENTRY_NUMBERS * k;
-    e[ASL_ENTRY_HASH_ID] = 1;
-    e[ASL_ENTRY_DIGEST_START] = DIGEST * k;
-    e[ASL_ENTRY_DIGEST_LENGTH] = DIGEST;
-    e[ASL_ENTRY_FIRST_EXTENT] = first;
-    e[ASL_ENTRY_EXTENT_COUNT] = count;
+    j->entries[k] = (asl_entry){
+        .hash_id = 1,
+        .digest_start = DIGEST * k,
+        .digest_length = DIGEST,
+        .first_extent = first,
+        .extent_count = count,
+    };
 }
 
 /* Entries with random digests and 1 to 8 extents each, and the tidy segment of them. */
 static void make(struct job *j, size_t records) {
     j->records = records;
-    j->entries_count = ASL_ENTRY_NUMBERS * records;
-    j->entries = need(8 * j->entries_count);
+    j->entries = need(records * sizeof *j->entries);
     j->digests_size = DIGEST * records;
     j->digests = need(j->digests_size);
-    j->extents = need(8 * ASL_EXTENT_NUMBERS * EXTENTS_MOST * records);
+    j->extents = need(EXTENTS_MOST * records * sizeof *j->extents);
     for (size_t i = 0; i < j->digests_size; i++) j->digests[i] = (uint8_t)random_number();
     size_t extents = 0;
     for (size_t k = 0; k < records; k++) {
         size_t count = 1 + random_number() % EXTENTS_MOST;
         put_entry(j, k, extents, count);
         for (size_t i = 0; i < count; i++, extents++) {
-            uint64_t *x = j->extents + ASL_EXTENT_NUMBERS * extents;
-            x[ASL_EXTENT_BLOCK] = random_number();
-            x[ASL_EXTENT_OFFSET] = random_number() % 1000000;
-            x[ASL_EXTENT_LENGTH] = random_number() % 1000000;
+            asl_extent *x = &j->extents[extents];
+            x->block = random_number();
+            x->offset = random_number() % 1000000;
+            x->length = random_number() % 1000000;
         }
     }
-    j->extents_count = ASL_EXTENT_NUMBERS * extents;
-    j->room = HEADER + (RECORD + DIGEST) * records + ASL_EXTENT_SIZE * extents + FOOTER + 8;
+    j->extent_count = extents;
+    j->room = asl_write_length(0, j->entries, records) + 8;
     j->out = need(j->room);
-    uint64_t length = 0, again = 0;
-    must(write_with(BY_EIGHT, j, &length) == ASL_OK, "the C program does not write");
-    j->size = length;
+    asl_answer a = write_with(BY_EIGHT, j);
+    must(asl_ok(a), "the C program does not write");
+    j->size = asl_length(a);
     j->segment = need(j->size);
     memcpy(j->segment, j->out, j->size);
-    must(write_with(LIBRARY, j, &again) == ASL_OK && again == length && !memcmp(j->segment, j->out, length),
-         "the two write different segments");
+    must_write(j, "the two write different segments");
 }
 
 static void put_checksum(struct job *j) {
-    uint64_t sum = by_eight_crc64(j->segment, j->size - FOOTER);
-    for (int i = 0; i < 8; i++) j->segment[j->size - FOOTER + i] = (uint8_t)(sum >> (8 * i));
+    uint64_t sum = by_eight_crc64(j->segment, j->size - ASL_FOOTER_SIZE);
+    for (int i = 0; i < 8; i++) j->segment[j->size - ASL_FOOTER_SIZE + i] = (uint8_t)(sum >> (8 * i));
 }
 
 /* The records of the segment in a random order; the entries stand in one already. */
 static void shuffle(struct job *j) {
-    uint8_t *records = j->segment + HEADER, spare[RECORD];
+    uint8_t *records = j->segment + ASL_HEADER_SIZE, spare[ASL_RECORD_SIZE];
     for (size_t k = j->records; k > 1; k--) {
         size_t other = random_number() % k;
-        memcpy(spare, records + RECORD * (k - 1), RECORD);
-        memcpy(records + RECORD * (k - 1), records + RECORD * other, RECORD);
-        memcpy(records + RECORD * other, spare, RECORD);
+        memcpy(spare, records + ASL_RECORD_SIZE * (k - 1), ASL_RECORD_SIZE);
+        memcpy(records + ASL_RECORD_SIZE * (k - 1), records + ASL_RECORD_SIZE * other, ASL_RECORD_SIZE);
+        memcpy(records + ASL_RECORD_SIZE * other, spare, ASL_RECORD_SIZE);
     }
     put_checksum(j);
 }
@@ -149,78 +158,76 @@ static void shuffle(struct job *j) {
 static const uint8_t *sorted_digests;
 
 static int by_digest(const void *a, const void *b) {
-    return memcmp(sorted_digests + ((const uint64_t *)a)[ASL_ENTRY_DIGEST_START],
-                  sorted_digests + ((const uint64_t *)b)[ASL_ENTRY_DIGEST_START], DIGEST);
+    return memcmp(sorted_digests + ((const asl_entry *)a)->digest_start,
+                  sorted_digests + ((const asl_entry *)b)->digest_start, DIGEST);
 }
 
 /* The request that the tidy segment is read back as: digests and extents stand in the order of the entries too. */
 static void ask_for_segment(struct job *j) {
     sorted_digests = j->digests;
-    qsort(j->entries, j->records, 8 * ASL_ENTRY_NUMBERS, by_digest);
+    qsort(j->entries, j->records, sizeof *j->entries, by_digest);
     size_t extents = 0;
     for (size_t k = 0; k < j->records; k++) {
-        size_t count = j->entries[ASL_ENTRY_NUMBERS * k + ASL_ENTRY_EXTENT_COUNT];
+        size_t count = j->entries[k].extent_count;
         put_entry(j, k, extents, count);
         extents += count;
     }
-    const uint8_t *digests = j->segment + HEADER + RECORD * j->records, *listed = digests + j->digests_size;
-    memcpy(j->digests, digests, j->digests_size);
-    for (size_t i = 0; i < extents; i++, listed += ASL_EXTENT_SIZE) {
-        uint64_t *x = j->extents + ASL_EXTENT_NUMBERS * i;
-        uint32_t offset, length;
-        memcpy(&x[ASL_EXTENT_BLOCK], listed, 8);
-        memcpy(&offset, listed + 8, 4);
-        memcpy(&length, listed + 12, 4);
-        x[ASL_EXTENT_OFFSET] = offset;
-        x[ASL_EXTENT_LENGTH] = length;
-    }
-    uint64_t length = 0;
-    must(write_with(LIBRARY, j, &length) == ASL_OK && length == j->size && !memcmp(j->segment, j->out, length),
-         "the segment is not written back as it is");
+    size_t digests = ASL_HEADER_SIZE + ASL_RECORD_SIZE * j->records;
+    memcpy(j->digests, j->segment + digests, j->digests_size);
+    for (size_t i = 0; i < extents; i++) j->extents[i] = asl_extent_at(j->segment, digests + j->digests_size, i);
+    must_write(j, "the segment is not written back as it is");
 }
 
 static volatile uint64_t kept; /* so that no call is left out */
 
+/* Keeps the answer of a call, which has to have this value. */
+static void keep(asl_answer a, uint64_t value, const char *otherwise) {
+    kept = a.bits;
+    must(asl_ok(a) && asl_value(a) == value, otherwise);
+}
+
 static void call_check(int side, struct job *j) {
-    uint64_t place = 0;
-    kept = SERVICES[side].check((const uint8_t *)PAIRS, sizeof PAIRS, j->segment, j->size, &place);
-    must(kept == ASL_OK, "check refuses");
+    keep(SERVICES[side].check(TABLE, sizeof PAIRS, j->segment, j->size), 0, "check refuses");
 }
 
 /* A key that a record in the middle has. */
 static void call_look_up(int side, struct job *j) {
-    uint64_t place = 0, found[ASL_FOUND_NUMBERS];
-    uint8_t absent[DIGEST] = {0};
+    static const uint8_t absent[DIGEST];
+    uint8_t found[ASL_FOUND_SIZE];
     const uint8_t *digest = j->records ? j->digests + DIGEST * (j->records / 2) : absent;
-    kept = SERVICES[side].look_up((const uint8_t *)PAIRS, sizeof PAIRS, j->segment, j->size, 1, digest, DIGEST, found,
-                                  ASL_FOUND_NUMBERS, &place);
-    must(kept == ASL_OK && found[ASL_FOUND_STATE] == (j->records ? ASL_STATE_PRESENT : ASL_STATE_ABSENT),
-         "look up does not find");
+    keep(SERVICES[side].look_up(TABLE, sizeof PAIRS, j->segment, j->size, 1, digest, DIGEST, found, sizeof found),
+         j->records ? ASL_STATE_PRESENT : ASL_STATE_ABSENT, "look up does not find");
+}
+
+/* The record in the middle. */
+static void call_step(int side, struct job *j) {
+    uint8_t fields[ASL_FIELDS_SIZE];
+    keep(SERVICES[side].step(TABLE, sizeof PAIRS, j->segment, j->size, j->records / 2, fields, sizeof fields),
+         j->records ? ASL_STEP_RECORD : ASL_STEP_DONE, "step does not step");
+}
+
+static void call_tidy_length(int side, struct job *j) {
+    keep(SERVICES[side].tidy_length(TABLE, sizeof PAIRS, j->segment, j->size), j->size, "tidy length refuses");
 }
 
 static void call_tidy(int side, struct job *j) {
-    uint64_t place = 0, length = 0;
-    kept = SERVICES[side].tidy((const uint8_t *)PAIRS, sizeof PAIRS, j->segment, j->size, j->out, j->room, &length,
-                               &place);
-    must(kept == ASL_OK && length == j->size, "tidy refuses");
+    keep(SERVICES[side].tidy(TABLE, sizeof PAIRS, j->segment, j->size, j->out, j->room), j->size, "tidy refuses");
 }
 
-static void call_write(int side, struct job *j) {
-    uint64_t length = 0;
-    kept = write_with(side, j, &length);
-    must(kept == ASL_OK && length == j->size, "write refuses");
-}
+static void call_write(int side, struct job *j) { keep(write_with(side, j), j->size, "write refuses"); }
 
-static void call_checksum(int side, struct job *j) { kept = SERVICES[side].checksum(j->segment, j->size - FOOTER); }
+static void call_checksum(int side, struct job *j) {
+    kept = SERVICES[side].checksum(j->segment, j->size - ASL_FOOTER_SIZE);
+}
 
 /* Other passes over the same bytes: liblzma's checksum, and a sum of the bytes, eight at a time. */
 static void call_memory(int side, struct job *j) {
     uint64_t sum = 0, word;
     if (side == LIBRARY) {
-        kept = lzma_crc64(j->segment, j->size - FOOTER, 0);
+        kept = lzma_crc64(j->segment, j->size - ASL_FOOTER_SIZE, 0);
         return;
     }
-    for (size_t i = 0; i + 8 <= j->size - FOOTER; i += 8) {
+    for (size_t i = 0; i + 8 <= j->size - ASL_FOOTER_SIZE; i += 8) {
         memcpy(&word, j->segment + i, 8);
         sum += word;
     }
@@ -270,6 +277,8 @@ static void measure(const char *service, const char *order, void (*call)(int, st
 static void measure_all(struct job *j, const char *order) {
     measure("check", order, call_check, j);
     measure("look_up", order, call_look_up, j);
+    measure("step", order, call_step, j);
+    measure("tidy_length", order, call_tidy_length, j);
     measure("tidy", order, call_tidy, j);
     measure("write", order, call_write, j);
     measure("checksum", order, call_checksum, j);
@@ -282,8 +291,7 @@ int main(int argc, char **argv) {
         make(&j, strtoul(argv[i], NULL, 10));
         shuffle(&j);
         measure_all(&j, "shuffled");
-        must(asl_tidy((const uint8_t *)PAIRS, sizeof PAIRS, j.segment, j.size, j.out, j.room, &(uint64_t){0},
-                      &(uint64_t){0}) == ASL_OK, "tidy refuses");
+        call_tidy(LIBRARY, &j);
         memcpy(j.segment, j.out, j.size);
         ask_for_segment(&j);
         measure_all(&j, "tidy");

@@ -10,7 +10,7 @@ import platform
 import sys
 
 # How often a service runs the checksum over a segment: tidy checks its input and seals its result.
-CHECKSUMS = {"check": 1, "look_up": 1, "tidy": 2, "write": 1}
+CHECKSUMS = {"check": 1, "look_up": 1, "step": 1, "tidy_length": 1, "tidy": 2, "write": 1}
 ORDERS = ("tidy", "shuffled")
 
 
@@ -109,7 +109,9 @@ def page(times):
 
 
 # The plot: a line for the library (full) and one for C with the same checksum (dashed) for each service, both axes by powers of ten.
-COLOURS = {"check": "#0b6e4f", "look_up": "#1f5fa8", "tidy": "#b3541e", "write": "#7a3b8f"}
+COLOURS = {
+    "check": "#0b6e4f", "look_up": "#1f5fa8", "step": "#5c6b00", "tidy_length": "#a8326e", "tidy": "#b3541e", "write": "#7a3b8f",
+}
 WIDE, HIGH, LEFT, TOP = 380, 340, 60, 40
 
 
@@ -128,7 +130,7 @@ def plot(times):
         x = LEFT + panel * (WIDE + 50) + WIDE * (math.log10(records) - first) / (last - first)
         return x, TOP + HIGH * (high - math.log10(nanoseconds)) / (high - low)
 
-    out = [f'<svg xmlns="http://www.w3.org/2000/svg" width="{LEFT + 2 * WIDE + 90}" height="{TOP + HIGH + 70}" font-family="sans-serif" font-size="12">']
+    out = [f'<svg xmlns="http://www.w3.org/2000/svg" width="{LEFT + 2 * WIDE + 90}" height="{TOP + HIGH + 90}" font-family="sans-serif" font-size="12">']
     for panel, order in enumerate(ORDERS):
         left = LEFT + panel * (WIDE + 50)
         out.append(f'<rect x="{left}" y="{TOP}" width="{WIDE}" height="{HIGH}" fill="none" stroke="#888"/>')
@@ -144,10 +146,10 @@ def plot(times):
                 points = [at(panel, n, times[service, n, order][1][index]) for n in sizes]
                 out.append(line(points, colour, index == 3))
     for k, (service, colour) in enumerate(COLOURS.items()):
-        x = LEFT + 150 * k
+        x = LEFT + 130 * k
         out.append(line([(x, TOP + HIGH + 42), (x + 30, TOP + HIGH + 42)], colour, False))
         out.append(f'<text x="{x + 36}" y="{TOP + HIGH + 46}">{service}</text>')
-    out.append(f'<text x="{LEFT + 600}" y="{TOP + HIGH + 46}">full: the library; dashed: C, checksum by 1</text></svg>')
+    out.append(f'<text x="{LEFT}" y="{TOP + HIGH + 70}">full: the library; dashed: C, checksum by 1</text></svg>')
     return "\n".join(out) + "\n"
 
 

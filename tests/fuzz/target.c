@@ -2,9 +2,10 @@
 // part of their answers differs. plain.c is compiled with the fuzzer's counters, so its branches, one for each rule,
 // lead to new inputs. Every buffer is lent at exactly its size (lend.h).
 //
-// The input: a byte whose low two bits are the service and whose next bit makes the checksum right; a byte for the
-// table; two bytes for the room. Look up goes on with a hash id, a length and that many digest bytes, write with the
-// sizes of its lists and their numbers, check and tidy with nothing; what is left is the segment.
+// The input: a byte whose low three bits are the service and whose next bit makes the checksum right; a byte for the
+// table; two bytes for the room. Look up goes on with a hash id, a length and that many digest bytes, step with the
+// record's number, write with the sizes of its lists and their numbers, the others with nothing; what is left is the
+// segment.
 #include <stdio.h>
 #include <string.h>
 
@@ -12,24 +13,32 @@
 #include "lend.h"
 
 struct services {
-    __typeof__(asl_check) *check;
-    __typeof__(asl_look_up) *look_up;
-    __typeof__(asl_tidy) *tidy;
-    __typeof__(asl_write) *write;
+    __typeof__(asl_raw_check) *check;
+    __typeof__(asl_raw_look_up) *look_up;
+    __typeof__(asl_raw_tidy) *tidy;
+    __typeof__(asl_raw_write) *write;
+    __typeof__(asl_raw_tidy_length) *tidy_length;
+    __typeof__(asl_raw_step) *step;
 };
 
-extern __typeof__(asl_check) plain_check;
-extern __typeof__(asl_look_up) plain_look_up;
-extern __typeof__(asl_tidy) plain_tidy;
-extern __typeof__(asl_write) plain_write;
+extern __typeof__(asl_raw_check) plain_check;
+extern __typeof__(asl_raw_look_up) plain_look_up;
+extern __typeof__(asl_raw_tidy) plain_tidy;
+extern __typeof__(asl_raw_write) plain_write;
+extern __typeof__(asl_raw_tidy_length) plain_tidy_length;
+extern __typeof__(asl_raw_step) plain_step;
 uint64_t plain_crc64(const uint8_t *bytes, size_t size);
 
-static const struct services library = {asl_check, asl_look_up, asl_tidy, asl_write};
-static const struct services plain = {plain_check, plain_look_up, plain_tidy, plain_write};
+static const struct services library = {asl_raw_check, asl_raw_look_up,     asl_raw_tidy,
+                                        asl_raw_write, asl_raw_tidy_length, asl_raw_step};
+static const struct services plain = {plain_check, plain_look_up, plain_tidy, plain_write, plain_tidy_length,
+                                      plain_step};
 
-enum { CHECK, LOOK_UP, TIDY, WRITE };
-enum { TABLE, SEGMENT, DIGEST, BLOOM, ENTRIES, DIGESTS, EXTENTS, FOUND, OUT, SLICES };
-enum { FOOTER = 24 };
+enum { CHECK, LOOK_UP, TIDY, WRITE, TIDY_LENGTH, STEP, SERVICES };
+enum { TABLE, SEGMENT, DIGEST, BLOOM, ENTRIES, DIGESTS, EXTENTS, OUT, SLICES };
+enum { RIGHT_CHECKSUM = 8 };
+// Look up leaves 64 bytes and step 104; what they are lent is shorter than this.
+enum { LEAVES_LESS = 128 };
 
 struct slice {
     void *at;
@@ -38,13 +47,13 @@ struct slice {
 
 struct question {
     int service;
-    uint64_t hash_id;
+    uint64_t hash_id, record;
     struct slice slices[SLICES];
 };
 
 struct answer {
-    uint64_t number, place, length;
-    uint8_t found[8 * 9], out[65536];
+    uint64_t bits;
+    uint8_t out[65536];
 };
 
 // The input's bytes ---------------------------------------------------------------------------------------------------
@@ -98,8 +107,8 @@ static struct slice take_table(uint8_t choice) {
 
 static void make_checksum_right(struct slice segment) {
     if (segment.size < ASL_LEAST) return;
-    uint8_t *footer = (uint8_t *)segment.at + segment.size - FOOTER;
-    uint64_t crc = plain_crc64(segment.at, segment.size - FOOTER);
+    uint8_t *footer = (uint8_t *)segment.at + segment.size - ASL_FOOTER_SIZE;
+    uint64_t crc = plain_crc64(segment.at, segment.size - ASL_FOOTER_SIZE);
     memcpy(footer, &crc, sizeof crc);
 }
 
@@ -108,14 +117,14 @@ static struct question take_question(void) {
     uint8_t kind = take_byte(), table = take_byte();
     size_t room = take_byte();
     room = room << 8 | take_byte();
-    q.service = kind & 3;
+    q.service = kind % RIGHT_CHECKSUM % SERVICES;
     q.slices[TABLE] = take_table(table);
-    q.slices[FOUND] = lend_slice(FOUND, 8 * (room % 10));
-    q.slices[OUT] = lend_slice(OUT, room);
+    q.slices[OUT] = lend_slice(OUT, q.service == LOOK_UP || q.service == STEP ? room % LEAVES_LESS : room);
     if (q.service == LOOK_UP) {
         q.hash_id = take_number();
         q.slices[DIGEST] = take_bytes(DIGEST, take_byte() % 40);
     }
+    if (q.service == STEP) q.record = take_number();
     if (q.service == WRITE) {
         q.slices[BLOOM] = take_bytes(BLOOM, take_byte() % 17);
         q.slices[DIGESTS] = take_bytes(DIGESTS, take_byte() % 80);
@@ -124,30 +133,33 @@ static struct question take_question(void) {
         return q;
     }
     q.slices[SEGMENT] = take_bytes(SEGMENT, rest_size);
-    if (kind & 4) make_checksum_right(q.slices[SEGMENT]);
+    if (kind & RIGHT_CHECKSUM) make_checksum_right(q.slices[SEGMENT]);
     return q;
 }
 
 // Asking --------------------------------------------------------------------------------------------------------------
 
-static void ask(const struct services *to, const struct question *q, struct answer *a) {
-    const struct slice *s = q->slices, t = s[TABLE], g = s[SEGMENT], found = s[FOUND], out = s[OUT];
-    memset(a, 0x5A, sizeof *a);
-    memset(found.at, 0x5A, found.size);
-    memset(out.at, 0x5A, out.size);
+static asl_answer call(const struct services *to, const struct question *q) {
+    const struct slice *s = q->slices, t = s[TABLE], g = s[SEGMENT], out = s[OUT];
     switch (q->service) {
-    case CHECK: a->number = to->check(t.at, t.size, g.at, g.size, &a->place); break;
+    case CHECK: return to->check(t.at, t.size, g.at, g.size);
     case LOOK_UP:
-        a->number = to->look_up(t.at, t.size, g.at, g.size, q->hash_id, s[DIGEST].at, s[DIGEST].size, found.at,
-                                found.size / 8, &a->place);
-        break;
-    case TIDY: a->number = to->tidy(t.at, t.size, g.at, g.size, out.at, out.size, &a->length, &a->place); break;
+        return to->look_up(t.at, t.size, g.at, g.size, q->hash_id, s[DIGEST].at, s[DIGEST].size, out.at, out.size);
+    case TIDY: return to->tidy(t.at, t.size, g.at, g.size, out.at, out.size);
     case WRITE:
-        a->number = to->write(t.at, t.size, 2, 3, 4, 5, 6, 7, s[BLOOM].at, s[BLOOM].size, s[ENTRIES].at,
-                              s[ENTRIES].size / 8, s[DIGESTS].at, s[DIGESTS].size, s[EXTENTS].at, s[EXTENTS].size / 8,
-                              out.at, out.size, &a->length, &a->place);
+        return to->write(t.at, t.size, 2, 3, 4, 5, 6, 7, s[BLOOM].at, s[BLOOM].size, s[ENTRIES].at, s[ENTRIES].size / 8,
+                         s[DIGESTS].at, s[DIGESTS].size, s[EXTENTS].at, s[EXTENTS].size / 8, out.at, out.size);
+    case TIDY_LENGTH: return to->tidy_length(t.at, t.size, g.at, g.size);
+    case STEP: return to->step(t.at, t.size, g.at, g.size, q->record, out.at, out.size);
+    default: abort();
     }
-    memcpy(a->found, found.at, found.size);
+}
+
+static void ask(const struct services *to, const struct question *q, struct answer *a) {
+    struct slice out = q->slices[OUT];
+    memset(a, 0x5A, sizeof *a);
+    memset(out.at, 0x5A, out.size);
+    a->bits = call(to, q).bits;
     memcpy(a->out, out.at, out.size);
 }
 
@@ -161,8 +173,9 @@ int LLVMFuzzerTestOneInput(const uint8_t *input, size_t size) {
     ask(&library, &q, &ours);
     ask(&plain, &q, &theirs);
     if (memcmp(&ours, &theirs, sizeof ours) != 0) {
-        fprintf(stderr, "service %d: the library says %d at %d, plain.c %d at %d\n", q.service, (int)ours.number,
-                (int)ours.place, (int)theirs.number, (int)theirs.place);
+        fprintf(stderr, "service %d: the library's answer is %#llx, plain.c's %#llx, and the bytes are %s\n", q.service,
+                (unsigned long long)ours.bits, (unsigned long long)theirs.bits,
+                memcmp(ours.out, theirs.out, sizeof ours.out) == 0 ? "the same" : "others");
         abort();
     }
     return 0;

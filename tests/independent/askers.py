@@ -148,4 +148,4 @@ class Driver:
                                   timeout=BATCH_SECONDS, check=False)
         except subprocess.TimeoutExpired:
             return "no answer: the listing program took too long"
-        return Answer(0, 0, (), done.stdout)
+        return Answer(0, 0, 0, (done.stdout,))

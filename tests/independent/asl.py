@@ -1,4 +1,5 @@
-"""Document 01 in Python: a second opinion on check, look up, write, tidy and the listing.
+"""Document 01 in Python: a second opinion on check, look up, write, tidy, the walk's step and the
+listing; and on the length of the tidy form, which C asks for before it lends an output.
 
 Written from the paper alone and in its order, to be read beside it. Numbers are Python's whole
 numbers, so nothing here is modulo anything. Every public function answers with the paper's
@@ -157,7 +158,7 @@ def refuse_repeated_key(items):
 # A record by its meaning; its extents are a run of a list that stands beside it.
 Item = namedtuple("Item", "hash_id digest visibility imported source gone first_extent"
                   " extent_count total")
-Segment = namedtuple("Segment", "header bloom items extents footer")
+Segment = namedtuple("Segment", "header bloom records items extents footer")
 
 
 def examine(lengths, segment):
@@ -174,7 +175,7 @@ def examine(lengths, segment):
     refuse_if(header.visibility != largest_visibility(items), No.VISIBILITY)
     refuse_repeated_key(items)
     bloom = segment[HEADER.size:header.records_offset]
-    return Segment(header, bloom, items, extents, footer_of(segment))
+    return Segment(header, bloom, records, items, extents, footer_of(segment))
 
 
 def footer_of(segment):
@@ -257,26 +258,27 @@ def check(table, segment):
 
 # Look up --------------------------------------------------------------------------------------
 
-ABSENT, STATE_GONE, PRESENT = 0, 1, 2
+# They count from 1, so that 0, which no answer has, is not taken for a state.
+ABSENT, STATE_GONE, PRESENT = 1, 2, 3
 
 # `start` is the byte of the segment at which the extents stand, `count` their number. Whatever
-# does not apply to the state is 0, and all is 0 in a refusal.
+# does not apply to the state is 0.
 Values = namedtuple("Values", "state visibility domain imported source total start count")
-NO_VALUES = Values(ABSENT, 0, 0, 0, 0, 0, 0, 0)
+ABSENT_VALUES = Values(ABSENT, 0, 0, 0, 0, 0, 0, 0)
 
 
 def look_up(table, segment, hash_id, digest):
-    """Gives (number, place, Values)."""
+    """Gives (number, place, Values), or None for the last in a refusal."""
     try:
         lengths = lengths_of(table)
         refuse_if(lengths.get(hash_id) != len(digest), No.KEY)
         examined = examine(lengths, segment)
     except Refusal as refusal:
-        return refusal.number, refusal.place, NO_VALUES
+        return refusal.number, refusal.place, None
     for item in examined.items:
         if (item.hash_id, item.digest) == (hash_id, digest):
             return 0, 0, values_of(item, examined.header)
-    return 0, 0, NO_VALUES
+    return 0, 0, ABSENT_VALUES
 
 
 def values_of(item, header):
@@ -285,6 +287,18 @@ def values_of(item, header):
         return Values(STATE_GONE, *common, 0, 0, 0)
     start = header.extents_offset + EXTENT.size * item.first_extent
     return Values(PRESENT, *common, item.total, start, item.extent_count)
+
+
+# The walk -------------------------------------------------------------------------------------
+
+def step(table, segment, record):
+    """The walk's step at that record: gives (number, place, Record), or None for the last in a
+    refusal and past the last record, where the walk is done."""
+    try:
+        records = examine(lengths_of(table), segment).records
+    except Refusal as refusal:
+        return refusal.number, refusal.place, None
+    return 0, 0, records[record] if record < len(records) else None
 
 
 # The tidy form --------------------------------------------------------------------------------
@@ -296,19 +310,30 @@ def tidy_order(item):
     return item.hash_id, item.digest
 
 
+def sum_of_extent_counts(items):
+    return sum(item.extent_count for item in items)
+
+
+def tidy_layout(bloom, items):
+    """Where the sections of the tidy form stand; refuses with 16."""
+    digests_size = sum(len(item.digest) for item in items)
+    places = layout(len(bloom), len(items), digests_size + -digests_size % 8,
+                    sum_of_extent_counts(items))
+    refuse_if(places.file_length > MOST_FILE, No.LARGE)
+    return places
+
+
 def write_tidy_form(heading, bloom, items, extents, out):
     """Writes the one tidy form of the meaning and gives its length; refuses with 16 and 13."""
+    places = tidy_layout(bloom, items)
+    refuse_if(places.file_length > len(out), No.ROOM)
     items = sorted(items, key=tidy_order)
     digests = b"".join(item.digest for item in items)
     digests += bytes(-len(digests) % 8)
-    extent_count = sum(item.extent_count for item in items)
-    places = layout(len(bloom), len(items), len(digests), extent_count)
-    refuse_if(places.file_length > MOST_FILE, No.LARGE)
-    refuse_if(places.file_length > len(out), No.ROOM)
     header = HEADER.pack(
         MAGIC, VERSION, heading.shard, HEADER.size, heading.snapshot_min, heading.snapshot_max,
         len(items), places.records_offset, places.bloom_offset, len(bloom),
-        places.digests_offset, len(digests), places.extents_offset, extent_count,
+        places.digests_offset, len(digests), places.extents_offset, sum_of_extent_counts(items),
         heading.domain, largest_visibility(items), 0, 0, 0)
     packed_extents = b"".join(
         EXTENT.pack(*extent) for item in items
@@ -336,10 +361,19 @@ def pack_tidy_records(items, domain, places):
 def tidy(table, segment, out):
     """Gives (number, place, length); changes `out`, a bytearray, only if nothing is refused."""
     try:
-        header, bloom, items, extents, footer = examine(lengths_of(table), segment)
+        header, bloom, _, items, extents, footer = examine(lengths_of(table), segment)
         heading = Heading(header.shard, header.snapshot_min, header.snapshot_max, header.domain,
                           footer.seal_snapshot, footer.seal_time)
         return 0, 0, write_tidy_form(heading, bloom, items, extents, out)
+    except Refusal as refusal:
+        return refusal.number, refusal.place, 0
+
+
+def tidy_length(table, segment):
+    """Gives (number, place, length) as tidy does where there is room."""
+    try:
+        examined = examine(lengths_of(table), segment)
+        return 0, 0, tidy_layout(examined.bloom, examined.items).file_length
     except Refusal as refusal:
         return refusal.number, refusal.place, 0
 
@@ -427,7 +461,7 @@ def listing(data):
                      f" {'published' if item.visibility else 'internal'}"
                      f" {item.source if item.imported else '-'}"
                      f" {item.total} {item.extent_count}")
-    lines.append(f"extents {sum(item.extent_count for item in examined.items)}")
+    lines.append(f"extents {sum_of_extent_counts(examined.items)}")
     for number, item in enumerate(examined.items):
         for extent in range(item.extent_count):
             block, offset, length = examined.extents[item.first_extent + extent]

@@ -10,15 +10,13 @@ import asl
 import combined
 import large
 import small
-from case import FOUND_NUMBERS, Case
+from case import (FIELDS_SIZE, FOUND_SIZE, SEGMENT_KINDS, Case, numbers_as_bytes,
+                  split_numbers)
 from damages import DAMAGES, RECORD_DAMAGES, damage, edges
 from fields import (EXTENT_FIELDS, FOOTER_FIELDS, HEADER_FIELDS, RECORD_FIELDS, Places, get, put,
                     seal)
 from faults import spoil
-from protocol import numbers_as_bytes, split_numbers
 from shapes import Lent, any_meaning, broken_tables, lay_out, lend
-
-SEGMENT_KINDS = ("check", "look up", "tidy")
 
 # A whole segment with what questions about it need: the keys that stand in it and the length of
 # its tidy form.
@@ -27,11 +25,9 @@ Subject = namedtuple("Subject", "name table segment keys tidy_length")
 
 def subject_of(name, table, segment):
     examined = asl.examine(asl.lengths_of(table), segment)
-    room = 136 + len(examined.bloom) + 16 * sum(item.extent_count for item in examined.items)
-    room += 48 * len(examined.items)
-    digests = sum(len(item.digest) for item in examined.items)
     keys = [(item.hash_id, item.digest) for item in examined.items]
-    return Subject(name, table, segment, keys, room + digests + -digests % 8)
+    tidy_length = asl.tidy_layout(examined.bloom, examined.items).file_length
+    return Subject(name, table, segment, keys, tidy_length)
 
 
 def small_subjects():
@@ -47,12 +43,22 @@ def any_output(rng, needed):
     return rng.randbytes(max(length, 0))
 
 
-def any_found(rng):
-    """A list for look up's answer: mostly of the eight numbers it needs, sometimes one short, one
-    longer, or empty."""
-    length = rng.choices((FOUND_NUMBERS, FOUND_NUMBERS - 1, FOUND_NUMBERS + 1, 0),
-                         (80, 6, 10, 4))[0]
-    return [rng.randrange(2**64) for _ in range(length)]
+def any_bytes_for(rng, needed):
+    """Bytes for look up's answer or a step's: mostly as many as it needs, sometimes a byte or a
+    number fewer or more, or none."""
+    size = rng.choices((needed, needed - 1, needed - 8, needed + 1, needed + 8, 0),
+                       (78, 5, 3, 5, 5, 4))[0]
+    return rng.randbytes(size)
+
+
+def any_place(rng, subject):
+    """A record's number: mostly of one that stands there, often the first or the last; sometimes
+    past the last, a little or far, or right modulo a power of 2 only."""
+    count = len(subject.keys)
+    there = rng.choice((0, count - 1, rng.randrange(count))) if count else 0
+    past = rng.choice((count, count + 1, 2**32, 2**64 - 1, there + 2**16, there + 2**32,
+                       there + 2**63))
+    return there if rng.random() < 0.7 else past
 
 
 def neighbour(rng, digest):
@@ -94,7 +100,9 @@ def ask(rng, kind, subject, segment, name, table=None):
                 segment=segment)
     if kind == "look up":
         case.hash_id, case.digest = any_key(rng, subject)
-        case.found = any_found(rng)
+        case.found = any_bytes_for(rng, FOUND_SIZE)
+    elif kind == "step":
+        case.record, case.fields = any_place(rng, subject), any_bytes_for(rng, FIELDS_SIZE)
     elif kind == "tidy":
         case.out = any_output(rng, subject.tidy_length)
     return case
@@ -198,6 +206,30 @@ def every_room(rng, subjects):
         for room in range(subject.tidy_length + 3):
             yield Case("tidy", f"{subject.name}: room {room} for {subject.tidy_length}",
                        table=subject.table, segment=subject.segment, out=rng.randbytes(room))
+
+
+def every_found(rng, subjects):
+    """Bytes for look up's answer of every size up to it and of some more, for keys that stand
+    there and for one that does not."""
+    for subject in subjects:
+        for hash_id, digest in [*subject.keys, (7, small.KEY_7C)]:
+            for size in [*range(FOUND_SIZE + 3), FOUND_SIZE + 8, 2 * FOUND_SIZE]:
+                yield Case("look up", f"{subject.name}: {digest.hex()}, found of {size} bytes",
+                           table=subject.table, segment=subject.segment, hash_id=hash_id,
+                           digest=digest, found=rng.randbytes(size))
+
+
+def every_step(rng, subjects):
+    """A step at every record, past the last, and where a number that is cut would find one."""
+    for subject in subjects:
+        count = len(subject.keys)
+        ends = [count + 1, 2**8, 2**16, 2**32 - 1, 2**32, 2**32 + 1, 2**48, 2**63, 2**64 - 1]
+        for record in [*range(count + 1), *ends]:
+            for size in (0, 1, 8, FIELDS_SIZE - 8, FIELDS_SIZE - 1, FIELDS_SIZE, FIELDS_SIZE + 1,
+                         FIELDS_SIZE + 8, 2 * FIELDS_SIZE):
+                yield Case("step", f"{subject.name}: record {record}, fields of {size} bytes",
+                           table=subject.table, segment=subject.segment, record=record,
+                           fields=rng.randbytes(size))
 
 
 # Systematic cases over write's arguments ------------------------------------------------------
@@ -357,6 +389,8 @@ def systematic_cases(rng):
     yield from every_table(rng, subjects)
     yield from every_table_size(rng, subjects[-1])
     yield from every_room(rng, subjects)
+    yield from every_found(rng, subjects)
+    yield from every_step(rng, subjects)
     yield from every_number_lent(rng)
     yield from wide_lengths(rng)
     yield from every_ending(rng)

@@ -4,7 +4,7 @@ the refusals and their places are tried all over."""
 from itertools import combinations, product
 
 import small
-from case import Case
+from case import SEGMENT_KINDS, Case
 from fields import HEADER_FIELDS, RECORD_FIELDS, Places, get, put, seal
 
 RECORDS = 3
@@ -46,8 +46,8 @@ def duplicate_fault(record):
 
 
 def less_room(case):
-    """One byte of output less, and one number less for look up's answer."""
-    case.out, case.found = case.out[1:], case.found[1:]
+    """One byte less for the result, for look up's answer and for a step's."""
+    case.out, case.found, case.fields = case.out[1:], case.found[1:], case.fields[1:]
 
 
 def segment_faults():
@@ -69,19 +69,16 @@ def groups(faults):
 
 def segment_cases(rng):
     whole = whole_segment()
-    kinds = ("check", "look up", "tidy")
-    for (name, changes), kind in product(groups(segment_faults()), kinds):
+    for (name, changes), kind in product(groups(segment_faults()), SEGMENT_KINDS):
         sealed = rng.random() < 0.9
         case = Case(kind, f"faults {name}{'' if sealed else ', 6'}", table=small.TABLE,
                     segment=bytearray(whole), hash_id=7, digest=small.KEY_7D,
-                    out=rng.randbytes(len(whole)))
+                    record=rng.randrange(RECORDS + 1), out=rng.randbytes(len(whole)))
         for change in changes:
             change(case)
         if sealed:
             seal(case.segment)
         case.segment = bytes(case.segment)
-        if kind != "tidy":
-            case.out = b""
         yield case
 
 

@@ -1,5 +1,5 @@
-"""Compares a program's answers with asl.py's, case by case: number, place, values and every byte
-of every output.
+"""Compares a program's answers with asl.py's, case by case: number, which, value and every byte
+of every slice that was lent.
 
     compare.py [--cases N] [--seed S] [--listing COMMAND] DRIVER-COMMAND...
     compare.py [--cases N] [--seed S] --self
@@ -19,18 +19,23 @@ from collections import Counter
 import fixtures
 import wrong
 from askers import Driver, ask_here, batches
-from case import KINDS, Answer, answer_of
+from asl import ABSENT, PRESENT, STATE_GONE
+from case import DONE, KINDS, LEFT, LISTS, NUMBERS, SLICES, Answer, answer_of, slices_of
 from cases import all_cases
 from properties import property_problems
 from shapes import any_meaning
 
-# Which answers each service can give; all of them have to be met in a run.
+# Which numbers each service can give, and which values in an answer, where these are few; all of
+# them have to be met in a run.
 POSSIBLE = {
     "check": [*range(13), 14],
     "look up": [*range(15), 17],
     "tidy": [*range(15), 16],
     "write": [0, 5, 7, 8, 9, 10, 12, 13, 14, 15, 16],
+    "tidy length": [*range(13), 14, 16],
+    "step": [*range(15)],
 }
+POSSIBLE_VALUES = {"look up": (ABSENT, STATE_GONE, PRESENT), "step": (LEFT, DONE)}
 MOST_SHOWN = 5
 SHORT = 600
 
@@ -46,31 +51,36 @@ def shown_numbers(numbers):
 
 
 def shown_inputs(case):
-    rest = f" and bytes {case.table_rest.hex()}" if case.table_rest else ""
-    yield "table", shown_numbers(case.table) + rest
-    if case.kind == "write":
-        yield "heading", shown_numbers(case.heading)
-        yield "bloom", shown_bytes(case.bloom)
-        yield "entries", shown_numbers(case.entries)
-        yield "digests", shown_bytes(case.digests)
-        yield "extents", shown_numbers(case.extents)
-    else:
-        yield "segment", shown_bytes(case.segment)
-    if case.kind == "look up":
-        yield "key", f"{case.hash_id} {case.digest.hex()}"
-        yield "found before", shown_numbers(case.found)
-    if case.kind in ("tidy", "write"):
-        yield "output before", shown_bytes(case.out)
+    for name in NUMBERS[case.kind]:
+        yield name, str(getattr(case, name))
+    for name in SLICES[case.kind]:
+        lent = getattr(case, name)
+        yield name, shown_numbers(lent) if name in LISTS else shown_bytes(lent)
+    if case.table_rest:
+        yield "the table's last bytes", case.table_rest.hex()
 
 
 def shown_answer(answer, case):
     if not isinstance(answer, Answer):
         return answer
     if case.kind == "list":
-        return answer.out[:SHORT].decode(errors="replace")
-    verdict = f"refused {answer.number}" if answer.number else "accepted"
-    out = "unchanged" if answer.out == case.out else shown_bytes(answer.out)
-    return f"{verdict}, place {answer.place}, values {list(answer.values)}, output {out}"
+        return answer.lent[0][:SHORT].decode(errors="replace")
+    verdict = f"refused {answer.number}" if answer.number else "answered"
+    return f"{verdict}, which {answer.which}, value {answer.value}"
+
+
+def shown_changes(expected, answer, case):
+    """The slices that are not as they are expected, and where they differ first."""
+    if len(answer.lent) != len(expected.lent):
+        yield f"{len(answer.lent)} slices, not {len(expected.lent)}"
+    before = slices_of(case)
+    for name, was, right, there in zip(SLICES[case.kind], before, expected.lent, answer.lent):
+        if there != right:
+            first = next((i for i, (one, other) in enumerate(zip(there, right)) if one != other),
+                         "its end")
+            right_is = "unchanged" if right == was else shown_bytes(right)
+            there_is = "unchanged" if there == was else shown_bytes(there)
+            yield f"{name} differs first at {first}: {there_is}, not {right_is}"
 
 
 def show(case, expected, answer):
@@ -79,10 +89,9 @@ def show(case, expected, answer):
         print(f"    {name}: {text}")
     print(f"    asl.py: {shown_answer(expected, case)}")
     print(f"    answer: {shown_answer(answer, case)}")
-    if isinstance(answer, Answer) and answer.out != expected.out:
-        pairs = zip(answer.out, expected.out)
-        first = next((i for i, (one, other) in enumerate(pairs) if one != other), "its end")
-        print(f"    the outputs differ first at {first}")
+    if isinstance(answer, Answer):
+        for text in shown_changes(expected, answer, case):
+            print(f"    {text}")
 
 
 # Counting -------------------------------------------------------------------------------------
@@ -93,6 +102,7 @@ class Tally:
         self.passed = 0
         self.failed = 0
         self.expected = Counter()
+        self.expected_values = Counter()
 
     def note(self, good, explain):
         """Counts one comparison; the first few bad ones are explained."""
@@ -106,17 +116,22 @@ class Tally:
     def compare(self, cases, expected, answers):
         for case, right, answer in zip(cases, expected, answers, strict=True):
             self.expected[case.kind, right.number] += 1
+            if right.number == 0 and case.kind in POSSIBLE_VALUES:
+                self.expected_values[case.kind, right.value] += 1
             self.note(answer == right, lambda: show(case, right, answer))
 
     def end(self, driver):
         problem = driver.problem_at_the_end()
         self.note(problem is None, lambda: print(f"AT THE END: {problem}"))
 
-    def require_all_numbers(self):
-        for kind, numbers in POSSIBLE.items():
-            for number in numbers:
-                self.note(self.expected[kind, number] > 0, lambda: print(
-                    f"NEVER EXPECTED: refusal {number} from {kind}"))
+    def require_all(self):
+        """Notes every number and every value that was never expected."""
+        for possible, expected, what in ((POSSIBLE, self.expected, "number"),
+                                         (POSSIBLE_VALUES, self.expected_values, "value")):
+            for kind, numbers in possible.items():
+                for number in numbers:
+                    self.note(expected[kind, number] > 0, lambda: print(
+                        f"NEVER EXPECTED: {what} {number} from {kind}"))
 
     def print_counts(self):
         for kind in KINDS:
@@ -134,7 +149,7 @@ def compare_all(ask, seed, count, with_listing, tally):
              for case in source if with_listing or case.kind != "list")
     for batch in batches(cases):
         tally.compare(batch, [answer_of(case) for case in batch], ask(batch))
-    tally.require_all_numbers()
+    tally.require_all()
     meanings = [any_meaning(rng) for _ in range(max(count // 40, 20))]
     tried = property_problems(rng, ask, meanings)
     for meaning, problem in tried:

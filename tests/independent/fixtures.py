@@ -5,10 +5,10 @@
                            asks asl.py for each expected answer
 
 NN-name.asl is a segment under the table 1 -> 32, 7 -> 4; it is asked of check, of look up (hash
-7, digest 0a0b0c0d) and of tidy (65,536 bytes of room), which all answer NN. NN-name.args is JSON
-and says its service and all its arguments; `table_rest` are bytes after the table's last whole
-number, `found` is how many numbers look up is lent for its answer. The numbers and places below
-are written by hand from the paper.
+7, digest 0a0b0c0d), of tidy (65,536 bytes of room), of tidy length and of step (at record 0),
+which all answer NN. NN-name.args is JSON and says its service and all its arguments; `table_rest`
+are bytes after the table's last whole number, `found` and `fields` are how many bytes look up and
+step are lent for their answers. The numbers and places below are written by hand from the paper.
 """
 
 import json
@@ -16,7 +16,7 @@ import sys
 from pathlib import Path
 
 import small
-from case import Case, answer_of
+from case import SEGMENT_KINDS, Case, answer_of
 from fields import (EXTENT_FIELDS, FOOTER_SIZE, HEADER_FIELDS, RECORD_FIELDS, Places, put,
                     seal)
 from small import KEY_7C, KEY_7D, KEY_7E, gone, in_order, live
@@ -160,8 +160,12 @@ def segment_arguments(service, segment=L, table=((1, 32), (7, 4)), **others):
     return {"service": service, "table": table, "segment": segment.hex(), **others}
 
 
-def look_up_arguments(hash_id, digest, found=8, **others):
+def look_up_arguments(hash_id, digest, found=64, **others):
     return segment_arguments("look up", hash_id=hash_id, digest=digest.hex(), found=found, **others)
+
+
+def step_arguments(record, fields=104, **others):
+    return segment_arguments("step", record=record, fields=fields, **others)
 
 
 LIVE_ENTRY = [7, 0, 4, 1, 0, 0, 0, 0, 1]
@@ -195,10 +199,18 @@ ARGUMENTS = [
     ("00-write-case-l", write_arguments(), 0),
     ("00-write-unfinished-entry", write_arguments(entries=[LIVE_ENTRY, GONE_ENTRY, [7, 0]]), 0),
     ("00-look-up-absent", look_up_arguments(7, KEY_7C), 0),
+    # The last record, and past it, where no bytes are needed; at 2^32 a cut number is the first's.
+    ("00-step-last", step_arguments(1), 0),
+    ("00-step-done", step_arguments(2, fields=0), 0),
+    ("00-step-done-at-2-to-32", step_arguments(2**32, fields=0), 0),
+    ("00-step-done-at-the-most", step_arguments(2**64 - 1, fields=0), 0),
     # 5: bloom bytes that are no multiple of 8.
     ("05-write-bloom", write_arguments(bloom="00" * 12), 0),
-    # 6: a list too short for look up's answer comes after the segment.
+    # 6: too few bytes for look up's or step's answer come after the segment; and a step past the
+    # last record of a bad segment is not done.
     ("06-look-up-before-found", look_up_arguments(7, KEY_7D, found=0, segment=BAD_CHECKSUM), 0),
+    ("06-step-before-fields", step_arguments(0, fields=0, segment=BAD_CHECKSUM), 0),
+    ("06-step-before-done", step_arguments(2, segment=BAD_CHECKSUM), 0),
     # 7: marks and visibility above 1, too wide a source, a source without the mark.
     ("07-write-visibility", second_entry(visibility=2), 1),
     ("07-write-imported", second_entry(imported=256), 1),
@@ -219,10 +231,13 @@ ARGUMENTS = [
     ("10-write-sum", one_entry((9, 0, 2**31), (9, 0, 2**31)), 0),
     # 12: the first entry's key again.
     ("12-write-duplicate", second_entry(digest_start=0), 1),
-    # 13: one byte short, and one number short of look up's eight.
+    # 13: one byte short.
     ("13-tidy-room", segment_arguments("tidy", room=255), 0),
     ("13-write-room", write_arguments(room=255), 0),
-    ("13-look-up-found", look_up_arguments(7, KEY_7D, found=7), 0),
+    ("13-look-up-found", look_up_arguments(7, KEY_7D, found=63), 0),
+    ("13-look-up-found-absent", look_up_arguments(7, KEY_7C, found=63), 0),
+    ("13-step-fields", step_arguments(0, fields=103), 0),
+    ("13-step-fields-last", step_arguments(1, fields=0), 0),
     # 14: each rule of the table; in look up it comes before the unknown key.
     ("14-check-empty", segment_arguments("check", table=[]), 0),
     ("14-check-unfinished", segment_arguments("check", table=[[1, 32], [7, 4], [8]]), 0),
@@ -236,6 +251,8 @@ ARGUMENTS = [
     ("14-look-up", look_up_arguments(9, b"", table=[]), 0),
     ("14-tidy", segment_arguments("tidy", table=[], room=256), 0),
     ("14-write", write_arguments(table=[]), 0),
+    ("14-tidy-length", segment_arguments("tidy length", table=[]), 0),
+    ("14-step", step_arguments(2, fields=0, table=[]), 0),
     # 15: a digest or a run of extents that passes the end of its list, once by wrapping, once
     # because the last extent is unfinished.
     ("15-write-digest", second_entry(digest_start=5), 1),
@@ -276,14 +293,17 @@ def case_of_arguments(name, arguments):
     if case.kind == "look up":
         case.hash_id = arguments["hash_id"]
         case.digest = bytes.fromhex(arguments["digest"])
-        case.found = [0] * arguments["found"]
+        case.found = bytes(arguments["found"])
+    elif case.kind == "step":
+        case.record = arguments["record"]
+        case.fields = bytes(arguments["fields"])
     return case
 
 
 def cases_of_segment(name, segment):
-    yield Case("check", name, table=small.TABLE, segment=segment)
-    yield Case("look up", name, table=small.TABLE, segment=segment, hash_id=7, digest=KEY_7D)
-    yield Case("tidy", name, table=small.TABLE, segment=segment, out=bytes(SEGMENT_ROOM))
+    for kind in SEGMENT_KINDS:
+        yield Case(kind, name, table=small.TABLE, segment=segment, hash_id=7, digest=KEY_7D,
+                   out=bytes(SEGMENT_ROOM))
 
 
 def expectations():
@@ -333,8 +353,8 @@ def check():
     for file, case, number, place in expectations():
         tried += 1
         answer = answer_of(case)
-        if (answer.number, answer.place) != (number, place):
-            problems.append(f"{file}: {case.kind} answers {answer.number} at {answer.place}, "
+        if answer.number != number or (number and answer.value != place):
+            problems.append(f"{file}: {case.kind} answers {answer.number} at {answer.value}, "
                             f"not {number} at {place}")
     for number in range(18):
         tried += 1

@@ -86,8 +86,9 @@ def sharing_entries():
 def size_cases(rng):
     for bloom_size in (8, 16):
         name = f"result of {LIMIT + bloom_size - 8} bytes"
-        yield Case("tidy", name, table=small.TABLE, segment=sharing_segment(bloom_size),
-                   out=rng.randbytes(50))
+        segment = sharing_segment(bloom_size)
+        yield Case("tidy", name, table=small.TABLE, segment=segment, out=rng.randbytes(50))
+        yield Case("tidy length", name, table=small.TABLE, segment=segment)
         yield Case("write", name, table=small.TABLE, heading=small.HEADING,
                    bloom=bytes(bloom_size), entries=sharing_entries(),
                    digests=distinct_digests(SHARERS), extents=[0] * (3 * SHARED),
@@ -95,14 +96,18 @@ def size_cases(rng):
 
 
 def many_cases(rng, name, order):
-    """Many records that are all good, in some order, with room to spare: accepted, found, tidied
-    and written."""
+    """Many records that are all good, in some order, with room to spare: accepted, found, tidied,
+    walked and written."""
     segment = gone_segment(order)
     out = rng.randbytes(len(segment) + 8)
     yield Case("check", name, table=small.TABLE, segment=segment)
     yield Case("look up", name, table=small.TABLE, segment=segment, hash_id=7,
                digest=order[-1].to_bytes(4, "big"))
     yield Case("tidy", name, table=small.TABLE, segment=segment, out=out)
+    yield Case("tidy length", name, table=small.TABLE, segment=segment)
+    for record in (len(order) - 1, len(order)):
+        yield Case("step", f"{name}, record {record}", table=small.TABLE, segment=segment,
+                   record=record)
     yield write_gone(name, order, out=out)
 
 

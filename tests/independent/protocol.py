@@ -2,48 +2,34 @@
 
 import struct
 
-from case import Answer, Case
+from case import (LISTS, NUMBERS, SLICES, Answer, Case, numbers_as_bytes, numbers_from_bytes,
+                  slices_of, split_numbers)
 
-KIND_NUMBERS = {"check": 1, "look up": 2, "tidy": 3, "write": 4}
+KIND_NUMBERS = {"check": 1, "look up": 2, "tidy": 3, "write": 4, "tidy length": 5, "step": 6}
 KIND_NAMES = {number: name for name, number in KIND_NUMBERS.items()}
-
-
-def numbers_as_bytes(numbers):
-    return struct.pack(f"<{len(numbers)}Q", *numbers)
-
-
-def numbers_from_bytes(data):
-    return list(struct.unpack(f"<{len(data) // 8}Q", data))
-
-
-def split_numbers(data):
-    """The whole numbers at the beginning of the bytes, and the bytes after them."""
-    whole = len(data) - len(data) % 8
-    return numbers_from_bytes(data[:whole]), data[whole:]
+HEADING_NUMBERS = 6
 
 
 def field(data):
     return struct.pack("<Q", len(data)) + data
 
 
+def numbers_of(case):
+    """The numbers besides the slices; the heading is six of them."""
+    for name in NUMBERS[case.kind]:
+        value = getattr(case, name)
+        yield from value if name == "heading" else [value]
+
+
 def encode_case(case):
-    kind = bytes([KIND_NUMBERS[case.kind]])
-    table = field(numbers_as_bytes(case.table) + case.table_rest)
-    if case.kind == "check":
-        return kind + table + field(case.segment)
-    if case.kind == "look up":
-        return (kind + table + field(case.segment) + numbers_as_bytes([case.hash_id])
-                + field(case.digest) + field(numbers_as_bytes(case.found)))
-    if case.kind == "tidy":
-        return kind + table + field(case.segment) + field(case.out)
-    return (kind + table + numbers_as_bytes(case.heading) + field(case.bloom)
-            + field(numbers_as_bytes(case.entries)) + field(case.digests)
-            + field(numbers_as_bytes(case.extents)) + field(case.out))
+    return (bytes([KIND_NUMBERS[case.kind]]) + numbers_as_bytes(list(numbers_of(case)))
+            + b"".join(field(data) for data in slices_of(case)))
 
 
 def encode_answer(answer):
-    return (numbers_as_bytes([answer.number, answer.place, len(answer.values)])
-            + numbers_as_bytes(answer.values) + field(answer.out))
+    bits = answer.number + (answer.which << 8) + (answer.value << 16)
+    return (numbers_as_bytes([bits, len(answer.lent)])
+            + b"".join(field(data) for data in answer.lent))
 
 
 class Ended(Exception):
@@ -74,25 +60,19 @@ class Reader:
         if not kind:
             return None
         case = Case(KIND_NAMES[kind[0]], "")
-        case.table, case.table_rest = split_numbers(self.field())
-        if case.kind == "write":
-            case.heading = tuple(self.numbers(6))
-            case.bloom = self.field()
-            case.entries = numbers_from_bytes(self.field())
-            case.digests = self.field()
-            case.extents = numbers_from_bytes(self.field())
-            case.out = self.field()
-            return case
-        case.segment = self.field()
-        if case.kind == "look up":
-            case.hash_id = self.numbers(1)[0]
-            case.digest = self.field()
-            case.found = numbers_from_bytes(self.field())
-        elif case.kind == "tidy":
-            case.out = self.field()
+        for name in NUMBERS[case.kind]:
+            heading = name == "heading"
+            numbers = self.numbers(HEADING_NUMBERS if heading else 1)
+            setattr(case, name, tuple(numbers) if heading else numbers[0])
+        for name in SLICES[case.kind]:
+            data = self.field()
+            if name == "table":
+                case.table, case.table_rest = split_numbers(data)
+            else:
+                setattr(case, name, numbers_from_bytes(data) if name in LISTS else data)
         return case
 
     def answer(self):
-        number, place, count = self.numbers(3)
-        values = tuple(self.numbers(count))
-        return Answer(number, place, values, self.field())
+        bits, count = self.numbers(2)
+        lent = tuple(self.field() for _ in range(count))
+        return Answer(bits & 0xFF, bits >> 8 & 0xFF, bits >> 16, lent)

@@ -29,18 +29,22 @@ def long_digests():
                    imported=1, source=4_294_967_295)])
 
 
+CASE_L = small.case_l(small.PRINTED_HEADING)
 SAMPLES = {
-    "case-l": small.case_l(),
+    # As docs/FORMAT.md prints it, byte for byte (test_format.py).
+    "case-l": CASE_L,
     "empty": small.empty(),
     "one": small.one(),
     "long-digests": long_digests(),
     # Out of order, with shared digest bytes and extents; and its tidy form.
     "mixed": small.mixed(),
     "mixed-tidy": tidied(small.mixed()),
-    "refused-short": small.case_l()[:100],
-    "refused-magic": with_header(small.case_l(), magic=0),
-    "refused-cut": small.case_l()[:-1],
-    "refused-checksum": small.case_l()[:-1 - 16] + b"\xff" + small.case_l()[-16:],
+    "refused-short": CASE_L[:100],
+    "refused-magic": with_header(CASE_L, magic=0),
+    "refused-cut": CASE_L[:-1],
+    "refused-checksum": CASE_L[:-1 - 16] + b"\xff" + CASE_L[-16:],
+    # Record 1's flags are 3, under the old checksum.
+    "refused-damaged": CASE_L[:204] + b"\3" + CASE_L[205:],
     "refused-total": with_record(small.mixed(), 3, total=5),
     "refused-duplicate": small.in_order([small.gone(small.KEY_7D), small.gone(small.KEY_7D)]),
 }

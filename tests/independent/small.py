@@ -5,8 +5,11 @@ import asl
 from shapes import Meant, pack, pack_extents, record_fields
 
 TABLE = asl.LISTING_TABLE
+# All numbers differ, so that a program that swaps two of them is noticed.
 HEADING = asl.Heading(shard=2, snapshot_min=3, snapshot_max=4, domain=5, seal_snapshot=6,
                       seal_time=7)
+# Case L as docs/FORMAT.md prints it: document 01 says its domain only, and the rest is 0 there.
+PRINTED_HEADING = asl.Heading(0, 0, 0, 5, 0, 0)
 
 KEY_7C = bytes.fromhex("0a0b0c0c")
 KEY_7D = bytes.fromhex("0a0b0c0d")
@@ -43,9 +46,9 @@ def one():
     return in_order([live(KEY_7D, [(9, 64, 3)])])
 
 
-def case_l():
+def case_l(heading=HEADING):
     """The paper's case L: 256 bytes."""
-    return in_order([live(KEY_7D, [(9, 64, 3)], visibility=1), gone(KEY_7E)])
+    return in_order([live(KEY_7D, [(9, 64, 3)], visibility=1), gone(KEY_7E)], heading=heading)
 
 
 def mixed():

@@ -66,7 +66,7 @@ class PaperCases(unittest.TestCase):
         self.assertEqual(check(segment), (0, 0))
         for hash_id, length in ((1, 32), (7, 4)):
             self.assertEqual(asl.look_up(small.TABLE, segment, hash_id, bytes(length)),
-                             (0, 0, asl.NO_VALUES))
+                             (0, 0, (1, 0, 0, 0, 0, 0, 0, 0)))
 
     def test_too_short(self):
         self.assertEqual(check(b""), (1, 0))
@@ -107,7 +107,7 @@ class PaperCases(unittest.TestCase):
     def test_empty_export_is_present(self):
         segment = small.in_order([small.live(small.KEY_7D, [(9, 64, 0)])])
         self.assertEqual(asl.look_up(small.TABLE, segment, 7, small.KEY_7D),
-                         (0, 0, asl.Values(asl.PRESENT, 0, 5, 0, 0, 0, 168, 1)))
+                         (0, 0, (3, 0, 5, 0, 0, 0, 168, 1)))
 
     def test_live_with_no_extents(self):
         segment = with_record(small.one(), 0, extent_count=0, total=0)
@@ -140,6 +140,33 @@ class PaperCases(unittest.TestCase):
         self.assertEqual(check(segment), (10, 0))
 
 
+class Walk(unittest.TestCase):
+    """Case L's records, field by field as docs/FORMAT.md prints them."""
+
+    def step(self, record, segment=small.case_l()):
+        return asl.step(small.TABLE, segment, record)
+
+    def test_live(self):
+        self.assertEqual(self.step(0), (0, 0, (7, 4, 0, 208, 216, 1, 3, 5, 1, 0, 0, 0, 0)))
+
+    def test_gone(self):
+        self.assertEqual(self.step(1), (0, 0, (7, 4, 0, 212, 0, 0, 0, 5, 0, 0, 0, 0, 1)))
+
+    def test_done(self):
+        for record in (2, 3, 2**16, 2**32, 2**64 - 1):
+            self.assertEqual(self.step(record), (0, 0, None))
+        self.assertEqual(self.step(0, small.empty()), (0, 0, None))
+
+    def test_in_the_order_of_the_file(self):
+        first = [self.step(record, small.mixed())[2].digest_offset for record in range(4)]
+        self.assertEqual(first, [313, 345, 317, 316])
+
+    def test_refused_wherever_the_damage_is(self):
+        damaged = with_record(small.case_l(), 1, flags=2)
+        for record in (0, 1, 2):
+            self.assertEqual(self.step(record, damaged), (7, 1, None))
+
+
 class TidyAndListing(unittest.TestCase):
     def test_mixed_by_hand(self):
         """The tidy form of the mixed sample, each part written down from the paper."""
@@ -147,6 +174,7 @@ class TidyAndListing(unittest.TestCase):
         number, place, length = asl.tidy(small.TABLE, small.mixed(), out)
         # 4 records; 32 + 3 * 4 digest bytes, padded to 48; 2 + 1 + 3 extents.
         self.assertEqual((number, place, length), (0, 0, 112 + 8 + 4 * 48 + 48 + 6 * 16 + 24))
+        self.assertEqual(asl.tidy_length(small.TABLE, small.mixed()), (0, 0, length))
         self.assertEqual(out[length:], b"\xaa" * (600 - length))
         digests = bytes(range(32)) + bytes(range(3, 7)) + bytes(range(4, 8)) + small.KEY_7D
         self.assertEqual(out[312:360], digests + bytes(4))
@@ -157,6 +185,11 @@ class TidyAndListing(unittest.TestCase):
                    for start in Places(out[:length]).records]
         self.assertEqual([record.digest_offset for record in records], [312, 344, 348, 352])
         self.assertEqual([record.extents_offset for record in records], [360, 392, 440, 0])
+
+    def test_length_at_the_limit(self):
+        for bloom_size, answer in ((8, (0, 0, 1_073_741_824)), (16, (16, 0, 0))):
+            segment = large.sharing_segment(bloom_size)
+            self.assertEqual(asl.tidy_length(small.TABLE, segment), answer)
 
     def test_listing_of_nothing(self):
         self.assertEqual(asl.listing(small.empty()), "records 0\nextents 0\n")

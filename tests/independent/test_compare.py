@@ -3,6 +3,7 @@ and has nothing to say against the right one."""
 
 import io
 import random
+import struct
 import sys
 import unittest
 from contextlib import redirect_stdout
@@ -13,7 +14,7 @@ import large
 import testing
 import wrong
 from askers import Driver, ask_here
-from case import Answer, answer_of
+from case import DONE, Answer, answer_of
 from cases import listing_cases, random_cases, systematic_cases
 from compare import MOST_SHOWN, Tally
 from properties import property_problems
@@ -94,21 +95,15 @@ class RightProgram(unittest.TestCase):
 class BrokenProperties(unittest.TestCase):
     """The properties notice these with no help from asl.py's answers."""
 
-    def problems(self, name):
-        tried = small_property_problems(wrong.asker(name))
-        return [problem for _, problem in tried if problem]
-
-    def test_tidy_copies(self):
-        self.assertTrue(self.problems("tidy copies"))
-
-    def test_tidy_keeps_digest_places(self):
-        self.assertTrue(self.problems("tidy keeps digest places"))
-
-    def test_total_0_is_absent(self):
-        self.assertTrue(self.problems("total 0 is absent"))
-
-    def test_gone_left_out(self):
-        self.assertTrue(self.problems("gone left out of maximum"))
+    def test_each(self):
+        for name in ("tidy copies", "tidy keeps digest places", "total 0 is absent",
+                     "gone left out of maximum", "state 0 for absent", "length of the segment",
+                     "length counts shared extents once", "length without padding",
+                     "step gives the record before", "done one record early",
+                     "last record again"):
+            with self.subTest(name):
+                tried = small_property_problems(wrong.asker(name))
+                self.assertTrue([problem for _, problem in tried if problem])
 
 
 class BrokenDrivers(unittest.TestCase):
@@ -140,8 +135,16 @@ class Counting(unittest.TestCase):
         few = [case for case, answer in zip(CASES, EXPECTED) if answer.number != 12]
         tally.compare(few, [answer_of(case) for case in few], ask_here(few))
         self.assertEqual(tally.failed, 0)
-        tally.require_all_numbers()
-        self.assertEqual(tally.failed, 4)  # one for each service
+        tally.require_all()
+        self.assertEqual(tally.failed, 6)  # one for each service
+
+    def test_a_value_never_expected(self):
+        tally = Tally(quiet=True)
+        few = [(case, answer) for case, answer in zip(CASES, EXPECTED)
+               if not (case.kind == "step" and answer[:3] == (0, 0, DONE))]
+        tally.compare(*zip(*few), [answer for _, answer in few])
+        tally.require_all()
+        self.assertEqual(tally.failed, 1)
 
     def test_differences_are_shown(self):
         shown = io.StringIO()
@@ -160,8 +163,14 @@ class Protocol(unittest.TestCase):
         self.assertIsNone(reader.case())
 
     def test_answers_come_back(self):
-        answer = Answer(10, 2**64 - 1, (1, 2, 3), b"out")
-        self.assertEqual(Reader(io.BytesIO(encode_answer(answer))).answer(), answer)
+        for answer in (Answer(10, 2, 2**48 - 1, (b"table", b"", b"out")),
+                       Answer(255, 255, 0, ()), Answer(0, 0, 1, (b"",))):
+            self.assertEqual(Reader(io.BytesIO(encode_answer(answer))).answer(), answer)
+
+    def test_all_bits_are_told(self):
+        bits = 2**64 - 1 - 2**60 - 2**20 - 2**9 - 2
+        answer = Reader(io.BytesIO(struct.pack("<2Q", bits, 0))).answer()
+        self.assertEqual(encode_answer(answer), struct.pack("<2Q", bits, 0))
 
 
 if __name__ == "__main__":

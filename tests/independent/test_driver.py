@@ -31,32 +31,49 @@ def whole(name):
 
 PLAIN = whole("plain.c")
 
+KEY_TESTED = "if (!allows(&t, hash_id, digest_size)) return refusal(ASL_REFUSED_KEY, 0);"
+FOUND_TESTED = "if (found_size < sizeof numbers) return refusal(ASL_REFUSED_ROOM, 0);"
+FIELDS_TESTED = "if (fields_size < sizeof numbers) return refusal(ASL_REFUSED_ROOM, 0);"
+DONE_TESTED = "if (record >= s.record_count) return answered(ASL_STEP_DONE);"
+REFUSED = "return (asl_answer){number | place << 16};"
+
 # What stands once in it, and what stands in its place.
 WRONG = {
     "found is cleared before the check": (
-        "if (!allows(&t, hash_id, digest_size)) return ASL_KEY;",
-        "if (found_count) found[0] = 0;\n    if (!allows(&t, hash_id, digest_size)) return ASL_KEY;"),
+        KEY_TESTED, "if (found_size) found[0] = 0;\n    " + KEY_TESTED),
     "the whole of found is cleared": (
-        "memset(found, 0, ASL_FOUND_NUMBERS * sizeof *found);",
-        "memset(found, 0, found_count * sizeof *found);"),
-    "seven numbers of found are enough": (
-        "if (found_count < ASL_FOUND_NUMBERS) return ASL_ROOM;",
-        "if (found_count < ASL_FOUND_NUMBERS) return found_count == 7 ? ASL_OK : ASL_ROOM;"),
-    "the length is set when there is no room": (
-        "if (p.length > out_size) return ASL_ROOM;",
-        "*length = p.length;\n    if (p.length > out_size) return ASL_ROOM;"),
-    "the hash id is cut": (
-        "if (!allows(&t, hash_id, digest_size)) return ASL_KEY;",
-        "if (!allows(&t, (uint32_t)hash_id, digest_size)) return ASL_KEY;"),
+        "put_numbers(found, numbers, 8);",
+        "memset(found, 0, found_size);\n    put_numbers(found, numbers, 8);"),
+    "63 bytes of found are enough": (
+        FOUND_TESTED,
+        "if (found_size == 63) return answered(ASL_STATE_ABSENT);\n    " + FOUND_TESTED),
+    "the length is told when there is no room": (
+        "if (p.length > out_size) return refusal(ASL_REFUSED_ROOM, 0);",
+        "if (p.length > out_size) return refusal(ASL_REFUSED_ROOM, p.length);"),
+    "the hash id is cut": (KEY_TESTED, KEY_TESTED.replace("hash_id", "(uint32_t)hash_id")),
     "an unfinished number of the table is not read": (
-        "t->pairs = 0;\n",
-        "t->pairs = 0;\n    size -= size % 8;\n"),
-    "an answer leaves the place": (
-        "*place = v.place;\n    return v.number;",
-        "*place = v.number ? v.place : 1;\n    return v.number;"),
+        "t->pairs = 0;\n", "t->pairs = 0;\n    size -= size % 8;\n"),
+    "check answers a value": (
+        "static asl_answer accepted(void) { return answered(0); }",
+        "static asl_answer accepted(void) { return answered(1); }"),
+    "the place runs into which": (REFUSED, REFUSED.replace("16", "8")),
+    "which is set beside a place": (REFUSED, REFUSED.replace("place", "(place > 0) << 8 | place")),
+    "done needs room": (
+        DONE_TESTED,
+        "if (fields_size < 104) return refusal(ASL_REFUSED_ROOM, 0);\n    " + DONE_TESTED),
+    "the record's number is cut": (
+        DONE_TESTED, DONE_TESTED.replace("record >=", "(record = (uint32_t)record) >=")),
+    "fields are cleared before their room is known": (
+        FIELDS_TESTED, "memset(fields, 0, fields_size);\n    " + FIELDS_TESTED),
+    "twelve of the fields are left": (
+        "put_numbers(fields, numbers, 13);", "put_numbers(fields, numbers, 12);"),
+    "tidy changes the lent segment": (
+        "const uint8_t *footer = segment + segment_size - FOOTER;",
+        "const uint8_t *footer = segment + segment_size - FOOTER;\n"
+        "    ((uint8_t *)segment)[H_SHARD] ^= 1;"),
 }
-READS_TOO_FAR = ("if (!laid_out(s)) return ASL_LAYOUT;",
-                 "if (!laid_out(s) || bytes[size] == 1) return ASL_LAYOUT;")
+READS_TOO_FAR = ("if (!laid_out(s)) return ASL_REFUSED_LAYOUT;",
+                 "if (!laid_out(s) || bytes[size] == 1) return ASL_REFUSED_LAYOUT;")
 
 
 def some_cases():

@@ -1,13 +1,14 @@
 """Deliberately wrong programs, to show that the comparison notices them.
 
-Each is asl.py with one function replaced: first the paper's "plausible programs that are wrong",
-then others. `PROGRAMS` maps a name to (the function's name, a maker that is given the right one
-and gives the wrong one).
+Each is asl.py, or case.py for the rules of the C side, with one function replaced: first the
+paper's "plausible programs that are wrong", then others. `PROGRAMS` maps a name to (the module,
+the function's name, a maker that is given the right one and gives the wrong one).
 """
 
 from unittest import mock
 
 import asl
+import case
 from askers import ask_here
 from fields import HEADER_FIELDS, RECORD_FIELDS, Places, get, put, seal
 
@@ -17,7 +18,7 @@ from fields import HEADER_FIELDS, RECORD_FIELDS, Places, get, put, seal
 def absent_when_damaged(look_up):
     def wrong(*arguments):
         number, place, values = look_up(*arguments)
-        return (0, 0, asl.NO_VALUES) if 7 <= number <= 12 else (number, place, values)
+        return (0, 0, asl.ABSENT_VALUES) if 7 <= number <= 12 else (number, place, values)
     return wrong
 
 
@@ -33,8 +34,8 @@ def digest_first_byte_only(_):
 def total_0_is_absent(look_up):
     def wrong(*arguments):
         number, place, values = look_up(*arguments)
-        empty = values.state == asl.PRESENT and values.total == 0
-        return number, place, asl.NO_VALUES if empty else values
+        empty = number == 0 and values.state == asl.PRESENT and values.total == 0
+        return number, place, asl.ABSENT_VALUES if empty else values
     return wrong
 
 
@@ -90,7 +91,7 @@ def segment_before_key(look_up):
     def wrong(table, segment, hash_id, digest):
         number, place = asl.check(table, segment)
         if number:
-            return number, place, asl.NO_VALUES
+            return number, place, None
         return look_up(table, segment, hash_id, digest)
     return wrong
 
@@ -149,33 +150,230 @@ def source_0_listed_as_none(listing):
     return lambda data: listing(data).replace(" 0 0 0\n", " - 0 0\n")
 
 
+# States, steps and lengths --------------------------------------------------------------------
+
+def state_0_for_absent(look_up):
+    """A caller that has cleared its bytes before the call cannot tell this from no answer."""
+    def wrong(*arguments):
+        number, place, values = look_up(*arguments)
+        absent = number == 0 and values.state == asl.ABSENT
+        return number, place, values._replace(state=0) if absent else values
+    return wrong
+
+
+def room_before_segment(look_up_answer):
+    def wrong(question):
+        if len(question.found) < case.FOUND_SIZE:
+            return case.answer_with(question, asl.No.ROOM, 0, question.found)
+        return look_up_answer(question)
+    return wrong
+
+
+def bytes_after_the_numbers_cleared(answer_in_numbers):
+    """Clears what is lent after the numbers."""
+    def wrong(question, value, numbers, lent):
+        return answer_in_numbers(question, value, numbers, lent[:8 * len(numbers)]
+                                 + bytes(len(lent[8 * len(numbers):])))
+    return wrong
+
+
+def whole_numbers_are_enough(answer_in_numbers):
+    """Answers in as many numbers as there is room for."""
+    return lambda question, value, numbers, lent: answer_in_numbers(
+        question, value, numbers[:len(lent) // 8], lent)
+
+
+def segment_sorted_in_place(tidy_answer):
+    """Tidies the lent segment on its way: nobody may see that, refused or not."""
+    def wrong(question):
+        answer = tidy_answer(question)
+        table, segment, out = answer.lent
+        if answer.number == 0:
+            segment = (out[:answer.value] + segment[answer.value:])[:len(segment)]
+        return answer._replace(lent=(table, segment, out))
+    return wrong
+
+
+def place_left_in_output(write_answer):
+    """Leaves a refusal's place at the front of the output, as well as in its answer."""
+    def wrong(question):
+        answer = write_answer(question)
+        if answer.number == 0:
+            return answer
+        place = case.numbers_as_bytes([answer.value])[:len(question.out)]
+        out = place + question.out[len(place):]
+        return answer._replace(lent=(*answer.lent[:-1], out))
+    return wrong
+
+
+def length_of_the_segment(tidy_length):
+    def wrong(table, segment):
+        number, place, _ = tidy_length(table, segment)
+        return number, place, len(segment)
+    return wrong
+
+
+def length_counts_shared_extents_once(tidy_length):
+    def wrong(table, segment):
+        number, place, length = tidy_length(table, segment)
+        if number == 0:
+            items = asl.examine(asl.lengths_of(table), segment).items
+            used = {extent for item in items for extent in range(
+                item.first_extent, item.first_extent + item.extent_count)}
+            length -= asl.EXTENT.size * (asl.sum_of_extent_counts(items) - len(used))
+        return number, place, length
+    return wrong
+
+
+def length_without_padding(tidy_length):
+    def wrong(table, segment):
+        number, place, length = tidy_length(table, segment)
+        if number == 0:
+            items = asl.examine(asl.lengths_of(table), segment).items
+            length -= -sum(len(item.digest) for item in items) % 8
+        return number, place, length
+    return wrong
+
+
+def length_is_never_large(tidy_length):
+    """Says how long the result would be, though tidy refuses it."""
+    def wrong(table, segment):
+        with mock.patch.object(asl, "MOST_FILE", 2**63):
+            return tidy_length(table, segment)
+    return wrong
+
+
+def length_without_check(tidy_length):
+    """Looks at no record by itself: gives a length for segments that tidy refuses."""
+    def wrong(table, segment):
+        with mock.patch.object(asl, "examine_record", lambda *_: None):
+            return tidy_length(table, segment)
+    return wrong
+
+
+def step_gives_the_record_before(step):
+    return lambda table, segment, record: step(table, segment, max(record - 1, 0))
+
+
+def done_one_record_early(step):
+    def wrong(table, segment, record):
+        answer = step(table, segment, record)
+        return answer if step(table, segment, record + 1)[2] else (*answer[:2], None)
+    return wrong
+
+
+def last_record_again(step):
+    """Stays at the last record in place of saying done."""
+    def wrong(table, segment, record):
+        answer = step(table, segment, record)
+        if answer[0] == 0 and answer[2] is None:
+            records = asl.examine(asl.lengths_of(table), segment).records
+            return (0, 0, records[-1]) if records else answer
+        return answer
+    return wrong
+
+
+def step_cuts_the_number(step):
+    return lambda table, segment, record: step(table, segment, record % 2**32)
+
+
+def step_in_tidy_order(step):
+    def wrong(table, segment, record):
+        answer = step(table, segment, record)
+        if answer[2] is None:
+            return answer
+        examined = asl.examine(asl.lengths_of(table), segment)
+        pairs = sorted(zip(examined.items, examined.records),
+                       key=lambda pair: asl.tidy_order(pair[0]))
+        return 0, 0, pairs[record][1]
+    return wrong
+
+
+def step_stops_at_its_record(step):
+    """Refuses only what it met on its way: a later record's refusal is not given."""
+    def wrong(table, segment, record):
+        number, place, given = step(table, segment, record)
+        if asl.No.RECORD <= number <= asl.No.TOTAL and place > record:
+            start = Places(segment).records[record]
+            return 0, 0, asl.Record._make(asl.RECORD.unpack_from(segment, start))
+        return number, place, given
+    return wrong
+
+
+def step_says_done_when_refused(step):
+    """Says done past the last record of a segment that it refuses elsewhere."""
+    def wrong(table, segment, record):
+        number, place, given = step(table, segment, record)
+        past = number >= asl.No.RECORD and record >= get(segment, 0, HEADER_FIELDS["record count"])
+        return (0, 0, None) if past and number != asl.No.TABLE else (number, place, given)
+    return wrong
+
+
+def room_needed_to_be_done(step_answer):
+    def wrong(question):
+        answer = step_answer(question)
+        if answer[:3] == (0, 0, case.DONE) and len(question.fields) < case.FIELDS_SIZE:
+            return case.answer_with(question, asl.No.ROOM, 0, question.fields)
+        return answer
+    return wrong
+
+
+def fields_cleared_when_done(step_answer):
+    def wrong(question):
+        answer = step_answer(question)
+        if answer[:3] == (0, 0, case.DONE):
+            return case.answer_with(question, 0, case.DONE, bytes(len(question.fields)))
+        return answer
+    return wrong
+
+
 PROGRAMS = {
-    "absent when damaged": ("look_up", absent_when_damaged),
-    "offsets wrap": ("layout", offsets_wrap),
-    "digest first byte only": ("digest_is_inside", digest_first_byte_only),
-    "total 0 is absent": ("look_up", total_0_is_absent),
-    "gone left out of maximum": ("largest_visibility", gone_left_out_of_maximum),
-    "tidy keeps digest places": ("tidy", tidy_keeps_digest_places),
-    "place always 0": ("check", place_always_0),
-    "duplicate at the earlier": ("refuse_repeated_key", duplicate_at_the_earlier),
-    "duplicate before visibility": ("check", duplicate_before_visibility),
-    "segment before key": ("look_up", segment_before_key),
-    "room before large": ("tidy", room_before_large),
-    "output touched when refused": ("write", output_touched_when_refused),
-    "rest of output cleared": ("write", rest_of_output_cleared),
-    "tidy copies": ("tidy", tidy_copies),
-    "order of signed bytes": ("tidy_order", order_of_signed_bytes),
-    "lists wrap": ("passes_the_end", lists_wrap),
-    "unfinished items read": ("finished", unfinished_items_read),
-    "source 0 listed as none": ("listing", source_0_listed_as_none),
+    "absent when damaged": (asl, "look_up", absent_when_damaged),
+    "offsets wrap": (asl, "layout", offsets_wrap),
+    "digest first byte only": (asl, "digest_is_inside", digest_first_byte_only),
+    "total 0 is absent": (asl, "look_up", total_0_is_absent),
+    "gone left out of maximum": (asl, "largest_visibility", gone_left_out_of_maximum),
+    "tidy keeps digest places": (asl, "tidy", tidy_keeps_digest_places),
+    "place always 0": (asl, "check", place_always_0),
+    "duplicate at the earlier": (asl, "refuse_repeated_key", duplicate_at_the_earlier),
+    "duplicate before visibility": (asl, "check", duplicate_before_visibility),
+    "segment before key": (asl, "look_up", segment_before_key),
+    "room before large": (asl, "tidy", room_before_large),
+    "output touched when refused": (asl, "write", output_touched_when_refused),
+    "rest of output cleared": (asl, "write", rest_of_output_cleared),
+    "tidy copies": (asl, "tidy", tidy_copies),
+    "order of signed bytes": (asl, "tidy_order", order_of_signed_bytes),
+    "lists wrap": (asl, "passes_the_end", lists_wrap),
+    "unfinished items read": (asl, "finished", unfinished_items_read),
+    "state 0 for absent": (asl, "look_up", state_0_for_absent),
+    "room before segment": (case, "look_up_answer", room_before_segment),
+    "bytes after the numbers cleared": (case, "answer_in_numbers", bytes_after_the_numbers_cleared),
+    "whole numbers are enough": (case, "answer_in_numbers", whole_numbers_are_enough),
+    "segment sorted in place": (case, "tidy_answer", segment_sorted_in_place),
+    "place left in output": (case, "write_answer", place_left_in_output),
+    "length of the segment": (asl, "tidy_length", length_of_the_segment),
+    "length counts shared extents once": (asl, "tidy_length", length_counts_shared_extents_once),
+    "length without padding": (asl, "tidy_length", length_without_padding),
+    "length is never large": (asl, "tidy_length", length_is_never_large),
+    "length without check": (asl, "tidy_length", length_without_check),
+    "step gives the record before": (asl, "step", step_gives_the_record_before),
+    "done one record early": (asl, "step", done_one_record_early),
+    "last record again": (asl, "step", last_record_again),
+    "step cuts the number": (asl, "step", step_cuts_the_number),
+    "step in tidy order": (asl, "step", step_in_tidy_order),
+    "step stops at its record": (asl, "step", step_stops_at_its_record),
+    "step says done when refused": (asl, "step", step_says_done_when_refused),
+    "room needed to be done": (case, "step_answer", room_needed_to_be_done),
+    "fields cleared when done": (case, "step_answer", fields_cleared_when_done),
+    "source 0 listed as none": (asl, "listing", source_0_listed_as_none),
 }
 
 
 def asker(name):
     """An asker that answers as the wrong program does."""
-    function, make = PROGRAMS[name]
+    module, function, make = PROGRAMS[name]
 
     def ask(cases):
-        with mock.patch.object(asl, function, make(getattr(asl, function))):
+        with mock.patch.object(module, function, make(getattr(module, function))):
             return ask_here(cases)
     return ask

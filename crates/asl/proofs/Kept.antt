@@ -1,56 +1,64 @@
--- A refused call of an entry point changes nothing but the place; and what a promise says settles every number and byte.
---   call-look-up-keeps, call-tidy-keeps, call-write-keeps         the lent numbers, the size and the output stay
---   one-told, one-looked-up, one-sealed            two answers that one promise allows are equal
+-- A refused call of an entry point changes nothing; and what a promise says settles the number and every byte.
+--   call-look-up-keeps, call-step-keeps, call-tidy-keeps, call-write-keeps   the lent slice stays
+--   one-left                                                    two answers that one promise allows are equal
 -- Assumes nothing.
-use Prim.Native.Nat.{ℕ}
+use Prim.Native.Nat.{ℕ, _*_, _%_}
 use mathlib.Core.Path.{_≡_, refl, sym, ap, _∙_}
 use mathlib.Core.List.{List}
+use native.Mathlib.Omega.{arith}
 use lib.Dec.{eqb, leb}
-use lib.ListN.{length}
+use lib.ListN.{length, getD}
 use Rattle.answer.specs.declared.Written.{Written}
 use Rattle.answer.specs.declared.Written.the-variants.{Done, Refused}
-use Rattle.answer.specs.Answers.{Answer}
 use Rattle.lists.proofs.Tests.{by-test}
+use Rattle.segment.specs.declared.step.Step.{Step}
+use Rattle.segment.specs.declared.step.Step.the-variants.{Row, Done as NoRow, Refused as NoStep}
+use Rattle.segment.specs.Walk.{recordValues}
 use Rattle.segment.specs.Tidy.{outcome, outputAfter, tidied, tidyOf}
 use Rattle.segment.specs.Write.{Request, wrote, writeOf}
 use Rattle.c_answer.specs.declared.Reply.{Reply}
-use Rattle.c_answer.specs.Boundary.{told, LookedUp, lookedUpBy, replyLeft, Sealed, sealedBy, sealedAs}
+use Rattle.c_answer.specs.Boundary.{answerBits, bitsOf, Left, left, givenTo, replyLeft, stepLeft, sealedAs}
 
-pub call-look-up-keeps : (a : Reply) (found : List ℕ) → (replyLeft a found .number ≡ 0 → ⊥) → replyLeft a found .found ≡ found
+-- an answer whose lowest byte is 0 is no refusal
+abbrev pub Answered : ℕ → Type 0
+Answered b = b % 256 ≡ 0
+
+answered-bits : (value : ℕ) → Answered (answerBits 0 0 value)
+unfolding answerBits
+answered-bits value = omega arith
+
+given-keeps : (value : ℕ) (ns out : List ℕ) → (Answered (givenTo value ns out .bits) → ⊥) → givenTo value ns out .output ≡ out
+unfolding givenTo
+given-keeps value ns out refused =
+    by-test (leb (8 * length ns) (length out)) (λ e. absurd (refused (rw e (answered-bits value)))) (λ e. rw e)
+
+pub call-look-up-keeps : (a : Reply) (found : List ℕ) → (Answered (replyLeft a found .bits) → ⊥) → replyLeft a found .output ≡ found
 unfolding replyLeft
 call-look-up-keeps a found refused =
     by-test (eqb (a .number) 0)
-    (λ e. by-test (leb 8 (length found)) (λ f. absurd (refused (rw (e, f) refl))) (λ f. rw (e, f) refl))
-    (λ e. rw e refl)
+    (λ e. rw e (given-keeps (getD (a .values) 0 0) (a .values) found (λ z. refused (rw e z))))
+    (λ e. rw e)
+
+pub call-step-keeps : (t : Step) (fields : List ℕ) → (Answered (stepLeft t fields .bits) → ⊥) → stepLeft t fields .output ≡ fields
+unfolding stepLeft
+call-step-keeps (Row r) fields refused = given-keeps 1 (recordValues r) fields refused
+call-step-keeps NoRow fields refused = refl
+call-step-keeps (NoStep r) fields refused = refl
 
 -- what write and tidy leave of an answer: a form in front of the output, or nothing
-written-keeps : (w : Written) (form out : List ℕ) (before : ℕ) → (sealedAs (outcome w (outputAfter w form out)) before .number ≡ 0 → ⊥)
-    → (sealedAs (outcome w (outputAfter w form out)) before .size ≡ before) × (sealedAs (outcome w (outputAfter w form out)) before .output ≡ out)
-unfolding sealedAs
-written-keeps (Done n) form out before refused = absurd (refused refl)
-written-keeps (Refused r) form out before refused = (refl, refl)
+written-keeps : (w : Written) (form out : List ℕ) → (Answered (sealedAs (outcome w (outputAfter w form out)) .bits) → ⊥)
+    → sealedAs (outcome w (outputAfter w form out)) .output ≡ out
+unfolding sealedAs bitsOf
+written-keeps (Done n) form out refused = absurd (refused (answered-bits n))
+written-keeps (Refused r) form out refused = refl
 
-pub call-tidy-keeps : (pairs s out : List ℕ) (before : ℕ) → (sealedAs (tidyOf pairs s out) before .number ≡ 0 → ⊥)
-    → (sealedAs (tidyOf pairs s out) before .size ≡ before) × (sealedAs (tidyOf pairs s out) before .output ≡ out)
+pub call-tidy-keeps : (pairs s out : List ℕ) → (Answered (sealedAs (tidyOf pairs s out) .bits) → ⊥) → sealedAs (tidyOf pairs s out) .output ≡ out
 unfolding tidyOf
-call-tidy-keeps pairs s out before = written-keeps (tidied pairs s (length out)) _ out before
+call-tidy-keeps pairs s out = written-keeps (tidied pairs s (length out)) _ out
 
-pub call-write-keeps : (pairs : List ℕ) (q : Request) (out : List ℕ) (before : ℕ) → (sealedAs (writeOf pairs q out) before .number ≡ 0 → ⊥)
-    → (sealedAs (writeOf pairs q out) before .size ≡ before) × (sealedAs (writeOf pairs q out) before .output ≡ out)
+pub call-write-keeps : (pairs : List ℕ) (q : Request) (out : List ℕ) → (Answered (sealedAs (writeOf pairs q out) .bits) → ⊥) → sealedAs (writeOf pairs q out) .output ≡ out
 unfolding writeOf
-call-write-keeps pairs q out before = written-keeps (wrote pairs q (length out)) _ out before
+call-write-keeps pairs q out = written-keeps (wrote pairs q (length out)) _ out
 
-pub one-told : {n n′ p p′ : ℕ} {a : Answer} → told n p ≡ a → told n′ p′ ≡ a → (n ≡ n′) × (p ≡ p′)
-one-told e f = let same = e ∙ sym f in (ap (λ (a : Answer). a .number) same, ap (λ (a : Answer). a .place) same)
-
-pub one-looked-up : {n n′ p p′ : ℕ} {xs xs′ : List ℕ} {a : LookedUp} → lookedUpBy n p xs ≡ a → lookedUpBy n′ p′ xs′ ≡ a
-    → (n ≡ n′) × (p ≡ p′) × (xs ≡ xs′)
-one-looked-up e f =
-    let same = e ∙ sym f in
-    (ap (λ (a : LookedUp). a .number) same, ap (λ (a : LookedUp). a .place) same, ap (λ (a : LookedUp). a .found) same)
-
-pub one-sealed : {n n′ p p′ m m′ : ℕ} {xs xs′ : List ℕ} {a : Sealed} → sealedBy n p m xs ≡ a → sealedBy n′ p′ m′ xs′ ≡ a
-    → (n ≡ n′) × (p ≡ p′) × (m ≡ m′) × (xs ≡ xs′)
-one-sealed e f =
-    let same = e ∙ sym f in
-    (ap (λ (a : Sealed). a .number) same, ap (λ (a : Sealed). a .place) same, ap (λ (a : Sealed). a .size) same, ap (λ (a : Sealed). a .output) same)
+pub one-left : {n n′ : ℕ} {xs xs′ : List ℕ} {a : Left} → left n xs ≡ a → left n′ xs′ ≡ a → (n ≡ n′) × (xs ≡ xs′)
+one-left e f = let same = e ∙ sym f in (ap (λ (a : Left). a .bits) same, ap (λ (a : Left). a .output) same)

@@ -1,71 +1,100 @@
-// The entry points for C (include/asl.h). Each is total by its own checks, returns 0 or a refusal's number, and where it refuses
-// changes nothing but the place. A table is lent as bytes, eight to a number.
+// The entry points for C, as the library exports them; include/asl.h declares them, and wraps each so that lists are counted in items. Each
+// is total by its own checks, on numbers and slices, and returns one number: 0 or a refusal's number in the lowest byte, and from
+// the third byte on a value, or the refusal's place. Where it refuses it changes nothing. A table is lent as bytes, eight to a number.
 ghost use mathlib.Core.Path.{_≡_};
 ghost use Rattle.segment.specs.Keys.{keyFrom};
 ghost use Rattle.segment.specs.Check.{checkOf};
 ghost use Rattle.segment.specs.LookUp.{lookedUp};
-ghost use Rattle.segment.specs.Tidy.{tidyOf};
+ghost use Rattle.segment.specs.Walk.{stepped};
+ghost use Rattle.segment.specs.Tidy.{tidyLengthOf, tidyOf};
 ghost use Rattle.segment.specs.Write.{writeOf};
 ghost use Rattle.write.specs.Seal.{asked};
 ghost use Rattle.c_table.specs.Lent.{tableIn};
-ghost use Rattle.c_answer.specs.Boundary.{told, replyOf, lookedUpBy, replyLeft, headed, sealedBy, sealedAs};
+ghost use Rattle.c_answer.specs.Boundary.{bitsOf, lengthOf, left, replyOf, replyLeft, stepLeft, headed, sealedAs};
 use answer::Verdict;
 use segment::header::Heading;
+use segment::step::Step;
+
+// The version of this interface: major, minor and patch, from the fifth, the third and the first byte on.
+pub const VERSION: u64 = 0x0000_0002_0000_0000;
 
 #[no_mangle]
-pub extern "C" fn asl_check(table: &[u8], segment: &[u8], place: &mut u64) -> u64
-    ensures { λ r. ⌜ told r (now (place .exit)) ≡ checkOf (tableIn (now (table .entry))) (now (segment .entry)) ⌝ }
+pub extern "C" fn asl_raw_version() -> u64
+    ensures { λ r. ⌜ r ≡ 8589934592 ⌝ }
+{
+    VERSION
+}
+
+#[no_mangle]
+pub extern "C" fn asl_raw_check(table: &[u8], segment: &[u8]) -> u64
+    ensures { λ r. ⌜ r ≡ bitsOf (checkOf (tableIn (now (table .entry))) (now (segment .entry))) 0 ⌝ }
 {
     let numbers = c_table::numbers_in(table);
     let count = c_table::count_in(table);
     match check_segment::check(&numbers[..count], segment) {
-        Verdict::Accepted => {
-            *place = 0;
-            0
-        }
-        Verdict::Refused(r) => c_answer::refuse(r, place),
+        Verdict::Accepted => 0,
+        Verdict::Refused(r) => c_answer::refuse(r),
     }
 }
 
-// The answer's eight numbers go to the front of `found`, which has to have room for them.
+// The answer's eight numbers go to the front of `found`, which has to have 64 bytes.
 #[no_mangle]
-pub extern "C" fn asl_look_up(
+pub extern "C" fn asl_raw_look_up(
     table: &[u8],
     segment: &[u8],
     hash_id: u64,
     digest: &[u8],
-    found: &mut [u64],
-    place: &mut u64,
+    found: &mut [u8],
 ) -> u64
-    ensures { λ r. ⌜ lookedUpBy r (now (place .exit)) (now (found .exit)) ≡
+    ensures { λ r. ⌜ left r (now (found .exit)) ≡
         replyLeft (replyOf (lookedUp (tableIn (now (table .entry))) (now (segment .entry)) (keyFrom «hash_id» (now (digest .entry)))))
         (now (found .entry)) ⌝ }
 {
     let numbers = c_table::numbers_in(table);
     let count = c_table::count_in(table);
     let answer = look_up::look_up(&numbers[..count], segment, hash_id, digest);
-    c_answer::leave(c_answer::in_numbers(answer), found, place)
+    c_answer::leave(c_answer::in_numbers(answer), found)
+}
+
+// The thirteen fields of a record go to the front of `fields`, which has to have 104 bytes then.
+#[no_mangle]
+pub extern "C" fn asl_raw_step(table: &[u8], segment: &[u8], at: u64, fields: &mut [u8]) -> u64
+    ensures { λ r. ⌜ left r (now (fields .exit)) ≡
+        stepLeft (stepped (tableIn (now (table .entry))) (now (segment .entry)) at) (now (fields .entry)) ⌝ }
+{
+    let numbers = c_table::numbers_in(table);
+    let count = c_table::count_in(table);
+    match walk::step_from(&numbers[..count], segment, at as usize) {
+        Step::Row(r) => {
+            let values = c_answer::record_numbers(r);
+            c_answer::give(1, &values[..13], fields)
+        }
+        Step::Done => c_answer::bits(0, 2),
+        Step::Refused(r) => c_answer::refuse(r),
+    }
 }
 
 #[no_mangle]
-pub extern "C" fn asl_tidy(
-    table: &[u8],
-    segment: &[u8],
-    out: &mut [u8],
-    size: &mut u64,
-    place: &mut u64,
-) -> u64
-    ensures { λ r. ⌜ sealedBy r (now (place .exit)) (now (size .exit)) (now (out .exit)) ≡ sealedAs (tidyOf
-        (tableIn (now (table .entry))) (now (segment .entry)) (now (out .entry))) (now (size .entry)) ⌝ }
+pub extern "C" fn asl_raw_tidy_length(table: &[u8], segment: &[u8]) -> u64
+    ensures { λ r. ⌜ r ≡ lengthOf (tidyLengthOf (tableIn (now (table .entry))) (now (segment .entry))) ⌝ }
+{
+    let numbers = c_table::numbers_in(table);
+    let count = c_table::count_in(table);
+    c_answer::settle(tidy_length::tidy_length(&numbers[..count], segment))
+}
+
+#[no_mangle]
+pub extern "C" fn asl_raw_tidy(table: &[u8], segment: &[u8], out: &mut [u8]) -> u64
+    ensures { λ r. ⌜ left r (now (out .exit)) ≡ sealedAs (tidyOf (tableIn (now (table .entry))) (now (segment .entry)) (now (out .entry))) ⌝ }
 {
     let numbers = c_table::numbers_in(table);
     let count = c_table::count_in(table);
     let answer = tidy::tidy(&numbers[..count], segment, out);
-    c_answer::settle(answer, size, place)
+    c_answer::settle(answer)
 }
 
 #[no_mangle]
-pub extern "C" fn asl_write(
+pub extern "C" fn asl_raw_write(
     table: &[u8],
     shard: u16,
     snapshot_min: u64,
@@ -78,14 +107,12 @@ pub extern "C" fn asl_write(
     digests: &[u8],
     extents: &[u64],
     out: &mut [u8],
-    size: &mut u64,
-    place: &mut u64,
 ) -> u64
-    ensures { λ r. ⌜ sealedBy r (now (place .exit)) (now (size .exit)) (now (out .exit)) ≡ sealedAs (writeOf
+    ensures { λ r. ⌜ left r (now (out .exit)) ≡ sealedAs (writeOf
         (tableIn (now (table .entry)))
         (asked (headed shard «snapshot_min» «snapshot_max» domain «seal_snapshot» «seal_time»)
         (now (bloom .entry)) (now (entries .entry)) (now (digests .entry)) (now (extents .entry)))
-        (now (out .entry))) (now (size .entry)) ⌝ }
+        (now (out .entry))) ⌝ }
 {
     let numbers = c_table::numbers_in(table);
     let count = c_table::count_in(table);
@@ -106,5 +133,5 @@ pub extern "C" fn asl_write(
         extents,
         out,
     );
-    c_answer::settle(answer, size, place)
+    c_answer::settle(answer)
 }

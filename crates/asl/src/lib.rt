@@ -1,4 +1,4 @@
-// The library. Its interface for Rattle, gathered here: check, look up, write, tidy, the walk, and what they take and answer; and
+// The library. Its interface for Rattle, gathered here: check, look up, write, tidy and its length, the walk, and what they take and answer; and
 // the entry points for C, in `calls`.
 pub mod calls;
 
@@ -20,6 +20,7 @@ pub use table_pairs::Length;
 pub use table_pairs::Pair;
 pub use table_pairs::length_in;
 pub use tidy::tidy;
+pub use tidy_length::tidy_length;
 pub use walk::Walker;
 pub use walk::next;
 pub use walk::start;

@@ -1,35 +1,88 @@
--- The C boundary: what a call returns, and what it leaves. A refused call changes nothing but the place.
---   told           check: the number returned and the place left, as document 01's answer
---   LookedUp       look up: the number returned, the place left and the numbers left
---   Sealed         write and tidy: the number returned, the place and the result's size left, and every byte of the output
+-- The C boundary: the one number that a call returns, and what it leaves in the slice that it is lent to write to. A refused call changes
+-- nothing.
+--   answerBits     number + 2^8 × which + 2^16 × value
+--   bitsOf         of an answer: its value where it is answered, its place where it is refused
+--   Left           what a call returns, and every byte of the slice after it
+--   numberBytes    numbers, eight bytes each
+--   replyLeft, stepLeft, sealedAs   what look up, a step, and write and tidy return and leave
 -- Assumes nothing: these are definitions.
-use Prim.Native.Nat.{ℕ}
+use Prim.Native.Nat.{ℕ, _+_, _*_, _<_}
+use mathlib.Core.Path.{_≡_}
 use mathlib.Core.Bool.{cond}
 use mathlib.Core.List.{List, [], _∷_, _++_}
 use lib.Dec.{leb, eqb}
-use lib.ListN.{length, take, replicate}
-use Rattle.numbers.specs.Numbers.{put}
+use lib.ListN.{length, getD, take, replicate}
+use Rattle.numbers.specs.Numbers.{bytesOf, put}
 use Rattle.answer.specs.declared.Rule.the-variants.{Room}
+use Rattle.answer.specs.declared.Refusal.{Refusal}
 use Rattle.answer.specs.declared.Source.{Source}
 use Rattle.answer.specs.declared.Found.{Found}
 use Rattle.answer.specs.declared.Found.the-variants.{Absent, Gone, Present, Refused}
+use Rattle.answer.specs.declared.Written.{Written}
+use Rattle.answer.specs.declared.Written.the-variants.{Done, Refused as NotWritten}
 use Rattle.answer.specs.Answers.{refusal, numberOf, placeOf, Answer, sourceValues, foundAnswer}
 use Rattle.segment.specs.declared.header.Heading.{Heading}
+use Rattle.segment.specs.declared.step.Step.{Step}
+use Rattle.segment.specs.declared.step.Step.the-variants.{Row, Done as NoRow, Refused as NoStep}
+use Rattle.segment.specs.Walk.{recordValues}
 use Rattle.segment.specs.Tidy.{Outcome}
 use Rattle.c_answer.specs.declared.Reply.{Reply}
 
--- ---- check
+-- ---- one number
 
-abbrev pub told : ℕ → ℕ → Answer
-told number place = record { number = number; place = place; values = [] }
+-- a value has 48 bits
+abbrev pub valueLimit : ℕ
+valueLimit = 281474976710656
+
+unfoldable pub answerBits : ℕ → ℕ → ℕ → ℕ
+answerBits number which value = number + 256 * which + 65536 * value
+
+unfoldable pub bitsOf : Answer → ℕ → ℕ
+bitsOf a value = answerBits (a .number) 0 (cond (eqb (a .number) 0) value (a .place))
+
+abbrev pub refusedBits : Refusal → ℕ
+refusedBits r = answerBits (numberOf r) 0 (placeOf r)
+
+-- the first of an answer's values: the length of what write and tidy made
+abbrev pub lengthIn : List ℕ → ℕ
+lengthIn [] = 0
+lengthIn (n ∷ ns) = n
+
+-- an answer whose value is a length
+abbrev pub lengthOf : Answer → ℕ
+lengthOf a = bitsOf a (lengthIn (a .values))
+
+-- what write and tidy answer fits
+abbrev pub Small : Written → Type 0
+Small (Done n) = n < valueLimit
+Small (NotWritten r) = placeOf r < valueLimit
+
+-- ---- and a slice
+
+pub record Left : Type 0 where
+  pub bits : ℕ
+  pub output : List ℕ
+
+abbrev pub left : ℕ → List ℕ → Left
+left bits output = record { bits = bits; output = output }
+
+-- numbers, eight bytes each, little-endian
+unfoldable pub numberBytes : List ℕ → List ℕ
+numberBytes [] = []
+numberBytes (n ∷ ns) = bytesOf 8 n ++ numberBytes ns
+
+-- an answer with some value, and numbers for the front of a slice; 13, after every other refusal, where it is too short
+unfoldable pub givenTo : ℕ → List ℕ → List ℕ → Left
+givenTo value numbers out =
+    cond (leb (8 * length numbers) (length out)) (left (answerBits 0 0 value) (put out 0 (numberBytes numbers))) (left (refusedBits (refusal Room 0)) out)
 
 -- ---- look up
 
--- absent 0, gone 1, present 2
+-- absent 1, gone 2, present 3; 0 is no answer
 abbrev pub stateOf : Found → ℕ
-stateOf Absent = 0
-stateOf (Gone visibility domain source) = 1
-stateOf (Present visibility domain source total start count) = 2
+stateOf Absent = 1
+stateOf (Gone visibility domain source) = 2
+stateOf (Present visibility domain source total start count) = 3
 stateOf (Refused r) = 0
 
 -- look up's answer by value: its number, its place, and eight numbers: the state, the answer's values, and zeros. So they are state,
@@ -49,20 +102,16 @@ replied state visibility domain source total start count = record {
   values = state ∷ visibility ∷ domain ∷ sourceValues source ++ (total ∷ start ∷ count ∷ []);
 }
 
-pub record LookedUp : Type 0 where
-  pub number : ℕ
-  pub place : ℕ
-  pub found : List ℕ
+-- a reply's eight numbers go to the front of the slice, and the first of them, the state, is the value
+unfoldable pub replyLeft : Reply → List ℕ → Left
+replyLeft a found = cond (eqb (a .number) 0) (givenTo (getD (a .values) 0 0) (a .values) found) (left (answerBits (a .number) 0 (a .place)) found)
 
-abbrev pub lookedUpBy : ℕ → ℕ → List ℕ → LookedUp
-lookedUpBy number place found = record { number = number; place = place; found = found }
+-- ---- a step of the walk: a record's fields are left, and the value is 1; or the records are done, and it is 2
 
--- a reply goes to the front of the lent numbers; 13, after every other refusal, where they are fewer than eight
-unfoldable pub replyLeft : Reply → List ℕ → LookedUp
-replyLeft a found =
-    cond (eqb (a .number) 0)
-    (cond (leb 8 (length found)) (lookedUpBy 0 0 (put found 0 (a .values))) (lookedUpBy (numberOf (refusal Room 0)) (placeOf (refusal Room 0)) found))
-    (lookedUpBy (a .number) (a .place) found)
+unfoldable pub stepLeft : Step → List ℕ → Left
+stepLeft (Row r) fields = givenTo 1 (recordValues r) fields
+stepLeft NoRow fields = left (answerBits 0 0 2) fields
+stepLeft (NoStep r) fields = left (refusedBits r) fields
 
 -- ---- write and tidy
 
@@ -77,19 +126,12 @@ headed shard snapshotMin snapshotMax domain sealSnapshot sealTime = record {
   «seal_time» = sealTime;
 }
 
-pub record Sealed : Type 0 where
-  pub number : ℕ
-  pub place : ℕ
-  pub size : ℕ
-  pub output : List ℕ
+unfoldable pub sealedAs : Outcome → Left
+sealedAs o = left (lengthOf (o .answer)) (o .output)
 
-abbrev pub sealedBy : ℕ → ℕ → ℕ → List ℕ → Sealed
-sealedBy number place size output = record { number = number; place = place; size = size; output = output }
-
--- the result's size, or, where there is no result, the size that stood there
-abbrev pub sizeAfter : List ℕ → ℕ → ℕ
-sizeAfter [] before = before
-sizeAfter (n ∷ ns) before = n
-
-unfoldable pub sealedAs : Outcome → ℕ → Sealed
-sealedAs o before = sealedBy (o .answer .number) (o .answer .place) (sizeAfter (o .answer .values) before) (o .output)
+-- a reply whose numbers fit where they are said: eight of them, and the state is the first
+pub record Sayable (a : Reply) : Type 0 where
+  pub long : length (a .values) ≡ 8
+  pub number : a .number < 256
+  pub place : a .place < valueLimit
+  pub state : getD (a .values) 0 0 < valueLimit

@@ -1,15 +1,31 @@
-// What stands at the C boundary below the entry points: the answers as C is given them.
+// What stands at the C boundary below the entry points: the answers as C is given them, one number each, and numbers that are left in a
+// lent slice of bytes.
 ghost use mathlib.Core.Path.{_≡_};
-ghost use Prim.Native.Nat.{_≤_};
+ghost use Prim.Native.Nat.{_*_, _≤_, _<_};
 ghost use lib.ListN.{length};
 ghost use Rattle.numbers.specs.Numbers.{put};
-ghost use Rattle.answer.specs.Answers.{numberOf, placeOf, writtenAnswer};
-ghost use Rattle.c_answer.specs.Boundary.{replied, replyOf, lookedUpBy, replyLeft, sizeAfter};
+ghost use Rattle.answer.specs.Answers.{placeOf, writtenAnswer};
+ghost use Rattle.segment.specs.Walk.{recordValues};
+ghost use Rattle.c_answer.specs.Boundary.{
+  valueLimit,
+  answerBits,
+  refusedBits,
+  lengthOf,
+  Small,
+  left,
+  numberBytes,
+  givenTo,
+  replied,
+  replyOf,
+  replyLeft,
+  Sayable,
+};
 use answer::Found;
 use answer::Refusal;
 use answer::Rule;
 use answer::Source;
 use answer::Written;
+use segment::record::Record;
 
 // Look up's answer in numbers.
 pub struct Reply {
@@ -18,26 +34,32 @@ pub struct Reply {
     pub values: [u64; 8],
 }
 
-// Says a refusal: its place, and its number as the result.
-pub fn refuse(r: Refusal, place: &mut u64) -> u64
-    ensures { λ n. ⌜ (n ≡ numberOf r) × (now (place .exit) ≡ placeOf r) ⌝ }
+// An answer as one number: a refusal's number, or 0, in the lowest byte, and a value from the third byte on. The second byte is for
+// calls over two segments.
+pub fn bits(number: u64, value: u64) -> u64
+    requires { ⌜ number < 256 ⌝ }
+    requires { ⌜ value < valueLimit ⌝ }
+    ensures { λ r. ⌜ r ≡ answerBits number 0 value ⌝ }
 {
-    *place = answer_number::place(r);
-    answer_number::number(r)
+    number + 65536 * value
 }
 
-// Says what write and tidy answered. The size stays where there is no result.
-pub fn settle(w: Written, size: &mut u64, place: &mut u64) -> u64
-    ensures { λ n. ⌜ (n ≡ writtenAnswer w .number) × (now (place .exit) ≡ writtenAnswer w .place)
-        × (now (size .exit) ≡ sizeAfter (writtenAnswer w .values) (now (size .entry))) ⌝ }
+// Says a refusal.
+pub fn refuse(r: Refusal) -> u64
+    requires { ⌜ placeOf r < valueLimit ⌝ }
+    ensures { λ n. ⌜ n ≡ refusedBits r ⌝ }
+{
+    bits(answer_number::number(r), answer_number::place(r))
+}
+
+// Says what write and tidy answered.
+pub fn settle(w: Written) -> u64
+    requires { ⌜ Small w ⌝ }
+    ensures { λ n. ⌜ n ≡ lengthOf (writtenAnswer w) ⌝ }
 {
     match w {
-        Written::Done(n) => {
-            *size = n;
-            *place = 0;
-            0
-        }
-        Written::Refused(r) => refuse(r, place),
+        Written::Done(n) => bits(0, n),
+        Written::Refused(r) => refuse(r),
     }
 }
 
@@ -77,13 +99,13 @@ pub fn in_numbers(f: Found) -> Reply
         Found::Absent => Reply {
             number: 0,
             place: 0,
-            values: [0u64; 8],
+            values: [1, 0, 0, 0, 0, 0, 0, 0],
         },
         Found::Gone {
             visibility,
             domain,
             source,
-        } => found(1, visibility, domain, source, 0, 0, 0),
+        } => found(2, visibility, domain, source, 0, 0, 0),
         Found::Present {
             visibility,
             domain,
@@ -91,7 +113,7 @@ pub fn in_numbers(f: Found) -> Reply
             total,
             start,
             count,
-        } => found(2, visibility, domain, source, total, start, count),
+        } => found(3, visibility, domain, source, total, start, count),
         Found::Refused(r) => Reply {
             number: answer_number::number(r),
             place: answer_number::place(r),
@@ -100,32 +122,79 @@ pub fn in_numbers(f: Found) -> Reply
     }
 }
 
-// Numbers, put to the front of the lent ones.
-pub fn put_values(values: &[u64], found: &mut [u64])
-    requires { ⌜ length (now values) ≤ length (now found) ⌝ }
-    ensures { λ _. ⌜ now (found .exit) ≡ put (now (found .entry)) 0 (now (values .entry)) ⌝ }
+// Fields as wider numbers, so that who takes many of them need not show of each that it fits.
+fn wide8(x: u8) -> u64
+    ensures { λ r. ⌜ r ≡ x ⌝ }
+{
+    x as u64
+}
+
+fn wide16(x: u16) -> u64
+    ensures { λ r. ⌜ r ≡ x ⌝ }
+{
+    x as u64
+}
+
+fn wide32(x: u32) -> u64
+    ensures { λ r. ⌜ r ≡ x ⌝ }
+{
+    x as u64
+}
+
+// A record's fields as numbers, in their order.
+pub fn record_numbers(r: Record) -> [u64; 13]
+    ensures { λ n. ⌜ n ≡ recordValues r ⌝ }
+{
+    [
+        wide32(r.hash_id),
+        wide16(r.digest_length),
+        wide16(r.reserved),
+        r.digest_offset.0,
+        r.extents_offset.0,
+        wide32(r.extent_count),
+        r.total_length,
+        wide32(r.domain),
+        wide8(r.visibility),
+        wide8(r.imported),
+        wide16(r.reserved_last),
+        wide32(r.source),
+        wide32(r.flags),
+    ]
+}
+
+// Numbers, put to the front of the lent bytes, eight bytes each.
+fn put_numbers(values: &[u64], out: &mut [u8])
+    requires { ⌜ 8 * length (now values) ≤ length (now out) ⌝ }
+    ensures { λ _. ⌜ now (out .exit) ≡ put (now (out .entry)) 0 (numberBytes (now (values .entry))) ⌝ }
 {
     let mut i = 0;
     while i < values.len() {
-        found[i] = values[i];
+        numbers::put_u64(out, 8 * i, values[i]);
         i += 1;
     }
 }
 
-// Leaves a reply in the lent numbers, which have to be eight at least, or says why not.
-pub fn leave(a: Reply, found: &mut [u64], place: &mut u64) -> u64
-    requires { ⌜ length (a .values) ≡ 8 ⌝ }
-    ensures { λ n. ⌜ lookedUpBy n (now (place .exit)) (now (found .exit)) ≡ replyLeft a (now (found .entry)) ⌝ }
+// Leaves numbers in the lent bytes and says a value, or that there is no room.
+pub fn give(value: u64, values: &[u64], out: &mut [u8]) -> u64
+    requires { ⌜ value < valueLimit ⌝ }
+    requires { ⌜ length (now values) ≤ 16 ⌝ }
+    ensures { λ n. ⌜ left n (now (out .exit)) ≡ givenTo value (now (values .entry)) (now (out .entry)) ⌝ }
+{
+    if out.len() < 8 * values.len() {
+        return refuse(Refusal(Rule::Room, 0));
+    }
+    put_numbers(values, out);
+    bits(0, value)
+}
+
+// Leaves a reply in the lent bytes, or says why not.
+pub fn leave(a: Reply, found: &mut [u8]) -> u64
+    requires { ⌜ Sayable a ⌝ }
+    ensures { λ n. ⌜ left n (now (found .exit)) ≡ replyLeft a (now (found .entry)) ⌝ }
 {
     if a.number != 0 {
-        *place = a.place;
-        return a.number;
+        return bits(a.number, a.place);
     }
     let values = a.values;
-    if found.len() < 8 {
-        return refuse(Refusal(Rule::Room, 0), place);
-    }
-    put_values(&values[..8], found);
-    *place = 0;
-    0
+    give(values[0], &values[..8], found)
 }

@@ -4,3 +4,5 @@ pub mod TablesRecord
 pub mod TablesVisibility
 pub mod Book
 pub mod Readable
+pub mod Places
+pub mod Rows

@@ -12,6 +12,7 @@ use Rattle.answer.specs.Answers.{refusal}
 use Rattle.answer.specs.declared.Verdict.the-variants.{Accepted, Refused}
 use Rattle.answer.specs.Rules.{firstOver, someBelow}
 use Rattle.answer.proofs.Order.{never-both, must-not, first-accepted, first-refused, first-is-lowest, some-found, some-at}
+use Rattle.answer.proofs.Places.{Placed, placed-rows}
 use Rattle.segment.specs.Keys.{sameKey, freshKey, EarlierKey, FirstTwice, NoKeyTwice}
 use Rattle.lists.proofs.Equal.{eqList-iff}
 
@@ -23,6 +24,11 @@ stands-earlier key place i j l e = rw (some-found i j (sameKey key i) l e)
 pub is-new : (key : ℕ → List ℕ) (place : ℕ → ℕ) (i : ℕ) → someBelow i (sameKey key i) ≡ false → freshKey key place i ≡ Accepted
 unfolding freshKey
 is-new key place i e = rw e
+
+-- it is refused at its own place
+pub fresh-placed : {b : ℕ} (key : ℕ → List ℕ) (place : ℕ → ℕ) (k : ℕ) → place k < b → Placed b (freshKey key place k)
+unfolding freshKey
+fresh-placed key place k l = search placed-rows
 
 module _ (key : ℕ → List ℕ) (place : ℕ → ℕ) where
   same-iff : (i j : ℕ) → sameKey key i j ≡ true ↔ key i ≡ key j

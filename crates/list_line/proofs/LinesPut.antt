@@ -24,7 +24,8 @@ use Rattle.list_place.specs.declared.Place.the-variants.{RecordCount, RecordLin
 use Rattle.list_line.specs.declared.Stop.{Stop}
 use Rattle.list_place.specs.Pieces.{Piece, piece, recordPiece, extentPiece, rowPiece, pieceAt}
 use Rattle.list_line.specs.Stopped.{Stopped}
-use Rattle.list_line.proofs.ListedRows.{rows-long, rows-past, rows-here, few-extents, record-extents, record-count, record-line}
+use Rattle.check_book.proofs.Rows.{rows-long, rows-past, rows-here, few-extents, record-extents, record-count}
+use Rattle.list_line.proofs.ListedRows.{record-line}
 use Rattle.segment.proofs.Extents.{extents-past, extents-here}
 
 -- a piece by another name

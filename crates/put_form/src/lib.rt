@@ -6,7 +6,7 @@ ghost use lib.ListN.{length};
 ghost use Rattle.numbers.specs.Numbers.{put};
 ghost use Rattle.segment.specs.Format.{headerSize, recordsOffset, recordLimit};
 ghost use Rattle.segment.specs.Shapes.{Shaped};
-ghost use Rattle.segment.specs.Tidy.{lacking, formHeader, formOf};
+ghost use Rattle.segment.specs.Tidy.{formHeader, formOf};
 ghost use Rattle.put_item.specs.Lines.{itemRows, Lines};
 ghost use Rattle.put_form.specs.Emit.{Moderate, headerFor, Plan, sectionsUnder, bodyUnder, Emitted};
 use answer::Refusal;
@@ -22,14 +22,6 @@ use segment::header::Header;
 use segment::header::Heading;
 use segment::shape::Shape;
 
-// A number of bytes with the zeros that it lacks to a multiple of 8.
-fn padded(n: u64) -> u64
-    requires { ⌜ n ≤ 1152921504606846976 ⌝ }
-    ensures { λ r. ⌜ r ≡ n + lacking n ⌝ }
-{
-    n + (8 - n % 8) % 8
-}
-
 // The header over so many bloom bytes and records that come to some sizes.
 fn header_for(sh: Shape, t: Heading, bloom: u64, count: u64, s: Sizes) -> Header
     requires { ⌜ Shaped sh ⌝ }
@@ -38,7 +30,7 @@ fn header_for(sh: Shape, t: Heading, bloom: u64, count: u64, s: Sizes) -> Header
 {
     let records = Header::LONG + bloom;
     let digests = records + sh.record_size as u64 * count;
-    let size = padded(s.digests);
+    let size = segment::padded(s.digests);
     let place = header::bloom_place(bloom);
     Header {
         magic: sh.magic,

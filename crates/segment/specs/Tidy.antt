@@ -4,6 +4,7 @@
 --   formOf            the segment of rows in the order in which they stand
 --   tidyForm          the tidy form of a meaning
 --   tidied, tidyOf    what tidy answers, and what it leaves in the output
+--   tidyLengthOf      what the call answers that tells the tidy form's length and writes nothing
 -- Assumes nothing: these are definitions.
 use Prim.Native.Nat.{ℕ, _+_, _-_, _*_, _%_, max}
 use mathlib.Core.Bool.{Bool, cond}
@@ -230,6 +231,15 @@ settled v result room = after Refused (v then roomVerdict (length result) room) 
 -- as check, then 16, 13
 unfoldable pub tidied : List ℕ → List ℕ → ℕ → Written
 tidied pairs s room = settled (checked pairs s) (tidyForm v3 (meaningOf v3 s)) room
+
+-- the length of the tidy form, with nothing written: as check, then 16
+unfoldable pub tidySized : List ℕ → List ℕ → Written
+tidySized pairs s =
+    let n = length (tidyForm v3 (meaningOf v3 s)) in
+    after Refused (checked pairs s then must (leb n fileLimit) (refusal Large 0)) (Done n)
+
+unfoldable pub tidyLengthOf : List ℕ → List ℕ → Answer
+tidyLengthOf pairs s = writtenAnswer (tidySized pairs s)
 
 unfoldable pub tidyOf : List ℕ → List ℕ → List ℕ → Outcome
 tidyOf pairs s out =

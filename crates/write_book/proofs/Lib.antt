@@ -1,1 +1,2 @@
 pub mod RequestBook
+pub mod Places

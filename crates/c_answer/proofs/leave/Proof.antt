@@ -1,7 +1,7 @@
--- `c_answer::leave` meets its contract: refused, no room, or put.
-use borrow.Author.Needs.{needs}
+-- `c_answer::leave` meets its contract: refused, or given.
 use native.Mathlib.Omega.{arith}
-use Rattle.c_answer.proofs.Replies.{left-refused, left-room, left-put}
+use borrow.Author.Needs.{needs}
+use Rattle.c_answer.proofs.Replies.{left-refused, left-given}
 use Rattle.c_answer.proofs.leave.Statement.{statement}
 use Rattle.c_answer.proofs.leave.Tie as tie
 
@@ -9,10 +9,10 @@ pub leave-spec : {M : Type 1} → statement M
 leave-spec =
     tie.close
     (tie.spec
-    (λ c. left-refused _ _ (omega arith))
-    (λ c κs. search needs)
-    (λ c. left-room _ _ (omega (arith, c .before .before .before .before .if1 .left)) (omega arith) (c .refuse .ensures .0) (c .refuse .ensures .1))
+    (λ c κs. let said = c .before .before .before .pre in (said .number, said .place))
+    (λ c. left-refused _ _ _ (omega (arith, c .before .if1 .taken)) (c .bits .ensures))
     (λ c. search needs)
-    (λ c κs. omega (arith, c .before .before .before .before .before .before .before .pre))
     (λ c. search needs)
-    (λ c. left-put _ _ _ (omega (arith, c .before .before .before .before .before .before .before .if1 .left)) (omega arith) (c .before .before .put-values .ensures)))
+    (λ c κs. let said = c .before .before .before .before .before .before .pre in (said .state, omega (arith, said .long)))
+    (λ c. search needs)
+    (λ c. let given = c .before .before in left-given _ _ _ (omega (arith, given .before .before .before .before .if1 .left)) (given .give .ensures)))

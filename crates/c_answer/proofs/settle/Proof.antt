@@ -1,7 +1,7 @@
 -- `c_answer::settle` meets its contract: a length, or a refusal.
-use mathlib.Core.Path.{refl}
 use borrow.Author.Needs.{needs}
-use Rattle.c_answer.proofs.Replies.{not-written}
+use lib.Dec.{lit<}
+use Rattle.c_answer.proofs.Replies.{settled-done, settled-refused, done-small, refused-small}
 use Rattle.c_answer.proofs.settle.Statement.{statement}
 use Rattle.c_answer.proofs.settle.Tie as tie
 
@@ -10,7 +10,8 @@ settle-spec =
     tie.close
     (tie.spec
     (λ c. search needs)
+    (λ c κs. (lit< tt, done-small _ _ (c .before .w .given .1) (c .before .before .before .pre)))
     (λ c. search needs)
-    (λ c κs. search needs)
-    (λ c. search needs)
-    (λ c. not-written (c .before .before .before .before .before .args .w) {x = (c .before .before .before .w2 .given .0 .0)} (c .before .before .before .w2 .given .1) (c .refuse .ensures .0) (c .refuse .ensures .1) refl))
+    (λ c κs. refused-small _ _ (c .before .w2 .given .1) (c .before .before .before .pre))
+    (λ c. settled-done _ _ _ (c .before .before .w .given .1) (c .bits .ensures))
+    (λ c. settled-refused _ _ _ (c .before .before .w2 .given .1) (c .refuse .ensures)))

@@ -3,7 +3,7 @@ use Prim.Native.Nat.{_-_}
 use native.Mathlib.Omega.{arith}
 use Rattle.segment.specs.Format.{headerOf}
 use Rattle.check_book.proofs.Readable.{record-inside}
-use Rattle.list_line.proofs.ListedRows.{few-extents}
+use Rattle.check_book.proofs.Rows.{few-extents}
 use Rattle.list_line.proofs.LinesPut.{Counting, counting-start, counting-more, counting-done}
 use Rattle.list_line.proofs.count_extents.Statement.{statement}
 use Rattle.list_line.proofs.count_extents.Tie as tie

@@ -2,7 +2,7 @@
 use native.Mathlib.Omega.{arith}
 use borrow.Author.Needs.{needs}
 use Rattle.check_book.proofs.Readable.{record-inside}
-use Rattle.list_line.proofs.ListedRows.{record-known, few-extents}
+use Rattle.check_book.proofs.Rows.{record-known, few-extents}
 use Rattle.list_line.proofs.LinesPut.{extents-done, extent-past, extent-put}
 use Rattle.list_line.proofs.put_extent.Statement.{statement}
 use Rattle.list_line.proofs.put_extent.Tie as tie

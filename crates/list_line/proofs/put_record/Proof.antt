@@ -3,7 +3,8 @@ use mathlib.Core.Path.{refl}
 use native.Mathlib.Omega.{arith}
 use borrow.Author.Needs.{needs}
 use Rattle.check_book.proofs.Readable.{record-inside}
-use Rattle.list_line.proofs.ListedRows.{digest-short, record-known}
+use Rattle.check_book.proofs.Rows.{record-known}
+use Rattle.list_line.proofs.ListedRows.{digest-short}
 use Rattle.list_line.proofs.LinesPut.{record-past, record-put}
 use Rattle.list_line.proofs.put_record.Statement.{statement}
 use Rattle.list_line.proofs.put_record.Tie as tie
