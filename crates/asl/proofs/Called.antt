@@ -32,7 +32,7 @@ use Rattle.tidy.proofs.TidyRead.{table-bad as tidy-bad}
 use Rattle.tidy_length.proofs.Summing.{table-bad as length-bad}
 use Rattle.write.proofs.RequestItems.{table-bad as write-bad}
 use Rattle.c_answer.specs.declared.Reply.{Reply}
-use Rattle.c_answer.specs.Boundary.{valueLimit, answerBits, bitsOf, refusedBits, lengthOf, Left, left, givenTo, replyOf, replyLeft, stepLeft, Small, Sayable, sealedAs}
+use Rattle.c_answer.specs.Boundary.{valueLimit, answerBits, bitsOf, refusedBits, lengthBits, Left, left, givenTo, replyOf, replyLeft, stepLeft, Small, Sayable, sealedAs}
 use Rattle.c_answer.proofs.Replies.{refused-is, reply-sayable}
 use Rattle.c_table.specs.Lent.{tableIn}
 use Rattle.c_table.proofs.Taking.{Copied, alike-said}
@@ -109,12 +109,12 @@ module _ (bytes table : List ℕ) (count : ℕ) (l : Copied bytes table count) w
     pub length-small : Small w
     length-small = sized-small part s w c
 
-    pub length-said : {b : ℕ} → b ≡ lengthOf (writtenAnswer w) → b ≡ lengthOf (tidyLengthOf (tableIn bytes) s)
+    pub length-said : {b : ℕ} → b ≡ lengthBits (writtenAnswer w) → b ≡ lengthBits (tidyLengthOf (tableIn bytes) s)
     length-said g =
-        g ∙ ap (λ (a : Answer). lengthOf a) (c ∙ alike-said (λ p. tidyLengthOf p s) (writtenAnswer (NotWritten (refusal TableWrong 0))) (λ p. length-bad p s) l)
+        g ∙ ap (λ (a : Answer). lengthBits a) (c ∙ alike-said (λ p. tidyLengthOf p s) (writtenAnswer (NotWritten (refusal TableWrong 0))) (λ p. length-bad p s) l)
 
   -- tidy and write
-  sealed : (w : Written) (o : Outcome) {b : ℕ} {after : List ℕ} → outcome w after ≡ o → b ≡ lengthOf (writtenAnswer w) → left b after ≡ sealedAs o
+  sealed : (w : Written) (o : Outcome) {b : ℕ} {after : List ℕ} → outcome w after ≡ o → b ≡ lengthBits (writtenAnswer w) → left b after ≡ sealedAs o
   unfolding sealedAs
   sealed w o e f = rw f (ap sealedAs e)
 
@@ -122,12 +122,12 @@ module _ (bytes table : List ℕ) (count : ℕ) (l : Copied bytes table count) w
     pub tidy-small : Small w
     tidy-small = tidied-small part s out after w c
 
-    pub tidied : {b : ℕ} → b ≡ lengthOf (writtenAnswer w) → left b after ≡ sealedAs (tidyOf (tableIn bytes) s out)
+    pub tidied : {b : ℕ} → b ≡ lengthBits (writtenAnswer w) → left b after ≡ sealedAs (tidyOf (tableIn bytes) s out)
     tidied f = sealed w (tidyOf (tableIn bytes) s out) (c ∙ alike-said (λ p. tidyOf p s out) (outcome (NotWritten (refusal TableWrong 0)) out) (λ p. tidy-bad p s out) l) f
 
   module _ (q : Request) (out after : List ℕ) (w : Written) (c : outcome w after ≡ writeOf part q out) where
     pub write-small : Small w
     write-small = wrote-small part q out after w c
 
-    pub written : {b : ℕ} → b ≡ lengthOf (writtenAnswer w) → left b after ≡ sealedAs (writeOf (tableIn bytes) q out)
+    pub written : {b : ℕ} → b ≡ lengthBits (writtenAnswer w) → left b after ≡ sealedAs (writeOf (tableIn bytes) q out)
     written f = sealed w (writeOf (tableIn bytes) q out) (c ∙ alike-said (λ p. writeOf p q out) (outcome (NotWritten (refusal TableWrong 0)) out) (λ p. write-bad p q out) l) f

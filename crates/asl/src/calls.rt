@@ -10,7 +10,7 @@ ghost use Rattle.segment.specs.Tidy.{tidyLengthOf, tidyOf};
 ghost use Rattle.segment.specs.Write.{writeOf};
 ghost use Rattle.write.specs.Seal.{asked};
 ghost use Rattle.c_table.specs.Lent.{tableIn};
-ghost use Rattle.c_answer.specs.Boundary.{bitsOf, lengthOf, left, replyOf, replyLeft, stepLeft, headed, sealedAs};
+ghost use Rattle.c_answer.specs.Boundary.{bitsOf, lengthBits, left, replyOf, replyLeft, stepLeft, headed, sealedAs};
 use answer::Verdict;
 use segment::header::Heading;
 use segment::step::Step;
@@ -76,7 +76,7 @@ pub extern "C" fn asl_raw_step(table: &[u8], segment: &[u8], at: u64, fields: &m
 
 #[no_mangle]
 pub extern "C" fn asl_raw_tidy_length(table: &[u8], segment: &[u8]) -> u64
-    ensures { λ r. ⌜ r ≡ lengthOf (tidyLengthOf (tableIn (now (table .entry))) (now (segment .entry))) ⌝ }
+    ensures { λ r. ⌜ r ≡ lengthBits (tidyLengthOf (tableIn (now (table .entry))) (now (segment .entry))) ⌝ }
 {
     let numbers = c_table::numbers_in(table);
     let count = c_table::count_in(table);

@@ -46,7 +46,7 @@ use Rattle.c_answer.specs.Boundary.{
   answerBits,
   bitsOf,
   refusedBits,
-  lengthIn,
+  firstValue,
   Small,
   Left,
   left,
@@ -153,7 +153,7 @@ reply-sayable a f e p = rw e (record { long = values-long f; number = number-sma
 pub refused-bits : (r : Refusal) (n p b : ℕ) → n ≡ numberOf r → p ≡ placeOf r → b ≡ answerBits n 0 p → b ≡ refusedBits r
 refused-bits r n p b e f g = g ∙ rw (e, f)
 
-pub settled-done : (w : Written) (n b : ℕ) → w ≡ Done n → b ≡ answerBits 0 0 n → b ≡ bitsOf (writtenAnswer w) (lengthIn (writtenAnswer w .values))
+pub settled-done : (w : Written) (n b : ℕ) → w ≡ Done n → b ≡ answerBits 0 0 n → b ≡ bitsOf (writtenAnswer w) (firstValue (writtenAnswer w .values))
 unfolding bitsOf
 settled-done w n b e g = rw e g
 
@@ -181,7 +181,7 @@ pub refused-is : (r : Refusal) (value : ℕ) → refusedBits r ≡ bitsOf (refus
 unfolding bitsOf
 refused-is r value = rw (rule-some (r .0))
 
-pub settled-refused : (w : Written) (r : Refusal) (b : ℕ) → w ≡ NotWritten r → b ≡ refusedBits r → b ≡ bitsOf (writtenAnswer w) (lengthIn (writtenAnswer w .values))
+pub settled-refused : (w : Written) (r : Refusal) (b : ℕ) → w ≡ NotWritten r → b ≡ refusedBits r → b ≡ bitsOf (writtenAnswer w) (firstValue (writtenAnswer w .values))
 settled-refused w r b e g = rw e (g ∙ refused-is r 0)
 
 pub done-small : (w : Written) (n : ℕ) → w ≡ Done n → Small w → n < 281474976710656

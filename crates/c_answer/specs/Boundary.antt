@@ -44,13 +44,13 @@ abbrev pub refusedBits : Refusal → ℕ
 refusedBits r = answerBits (numberOf r) 0 (placeOf r)
 
 -- the first of an answer's values: the length of what write and tidy made
-abbrev pub lengthIn : List ℕ → ℕ
-lengthIn [] = 0
-lengthIn (n ∷ ns) = n
+abbrev pub firstValue : List ℕ → ℕ
+firstValue [] = 0
+firstValue (n ∷ ns) = n
 
 -- an answer whose value is a length
-abbrev pub lengthOf : Answer → ℕ
-lengthOf a = bitsOf a (lengthIn (a .values))
+abbrev pub lengthBits : Answer → ℕ
+lengthBits a = bitsOf a (firstValue (a .values))
 
 -- what write and tidy answer fits
 abbrev pub Small : Written → Type 0
@@ -127,7 +127,7 @@ headed shard snapshotMin snapshotMax domain sealSnapshot sealTime = record {
 }
 
 unfoldable pub sealedAs : Outcome → Left
-sealedAs o = left (lengthOf (o .answer)) (o .output)
+sealedAs o = left (lengthBits (o .answer)) (o .output)
 
 -- a reply whose numbers fit where they are said: eight of them, and the state is the first
 pub record Sayable (a : Reply) : Type 0 where

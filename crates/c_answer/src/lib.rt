@@ -10,7 +10,7 @@ ghost use Rattle.c_answer.specs.Boundary.{
   valueLimit,
   answerBits,
   refusedBits,
-  lengthOf,
+  lengthBits,
   Small,
   left,
   numberBytes,
@@ -55,7 +55,7 @@ pub fn refuse(r: Refusal) -> u64
 // Says what write and tidy answered.
 pub fn settle(w: Written) -> u64
     requires { ⌜ Small w ⌝ }
-    ensures { λ n. ⌜ n ≡ lengthOf (writtenAnswer w) ⌝ }
+    ensures { λ n. ⌜ n ≡ lengthBits (writtenAnswer w) ⌝ }
 {
     match w {
         Written::Done(n) => bits(0, n),

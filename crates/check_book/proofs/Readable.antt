@@ -35,7 +35,7 @@ use Rattle.check_book.proofs.Book.{segment-book}
 -- ---- one record
 
 pub laid-inside : {sh : Shape} {s : List ℕ} {h : Header} → Laid sh s h → Inside s h
-laid-inside l = record { digests = omega (arith, l .layout); extents = omega (arith, l .layout); most = l .most }
+laid-inside l = record { digests = omega (arith, l .layout); extents = omega (arith, l .layout); limit = l .most }
 
 pub record-inside : {sh : Shape} {s : List ℕ} {h : Header} → Laid sh s h → (k : ℕ) → k < recordCount h → recordAt sh h k + sh .«record_size» ≤ length s
 record-inside {sh} l k i = omega (arith, mul-le-mul-left (sh .«record_size») i, l .layout .digests, l .layout .extents, l .layout .file)

@@ -25,7 +25,7 @@ pub record Laid (sh : Shape) (s : List ℕ) (h : Header) : Type 0 where
 pub record Inside (s : List ℕ) (h : Header) : Type 0 where
   pub digests : digestsOffset h + digestsSize h ≤ length s
   pub extents : extentsOffset h + extentSize * extentCount h ≤ length s
-  pub most : length s ≤ fileLimit
+  pub limit : length s ≤ fileLimit
 
 -- hash id and digest length are as small as the table has them
 pub record RecordReadable (sh : Shape) (s : List ℕ) (h : Header) (r : Record) : Type 0 where

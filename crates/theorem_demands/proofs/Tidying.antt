@@ -2,22 +2,29 @@
 -- when they mean the same. And each refusal of tidy is given exactly when; then every byte of the output stays.
 -- Assumes nothing.
 use Prim.Native.Nat.{ℕ, _≤_}
-use mathlib.Core.Path.{_≡_, refl, sym}
-use mathlib.Core.Bool.{true}
+use mathlib.Core.Path.{_≡_, refl, sym, _∙_}
+use mathlib.Core.Bool.{Bool, true, false}
 use mathlib.Core.Logic.{_↔_, Iff·symm}
 use mathlib.Core.List.{List}
+use native.Mathlib.Omega.{arith}
+use borrow.Author.Tests.{le-leb}
+use lib.Dec.{leb}
 use lib.ListN.{length}
 use Rattle.numbers.specs.Numbers.{Bytes}
 use Rattle.answer.specs.declared.Refusal.{Refusal}
-use Rattle.answer.specs.declared.Verdict.the-variants.{Accepted}
+use Rattle.answer.specs.declared.Rule.the-variants.{Large, Room}
+use Rattle.answer.specs.declared.Verdict.{Verdict}
+use Rattle.answer.specs.declared.Verdict.the-variants.{Accepted, Refused as Stopped}
 use Rattle.answer.specs.declared.Written.{Written}
-use Rattle.answer.specs.declared.Written.the-variants.{Refused}
-use Rattle.answer.specs.Answers.{refused}
+use Rattle.answer.specs.declared.Written.the-variants.{Done, Refused}
+use Rattle.answer.specs.Rules.{must, _then_, after}
+use Rattle.answer.specs.Answers.{refusal, refused, writtenAnswer}
+use Rattle.answer.proofs.Settled.{written-settled}
 use Rattle.segment.specs.Format.{v3, fileLimit}
 use Rattle.table.specs.Table.{goodTable}
 use Rattle.segment.specs.Check.{checked, checkOf}
 use Rattle.segment.specs.Meaning.{Meaning, meaningOf, SameMeaning}
-use Rattle.segment.specs.Tidy.{tidyForm, outcome, tidied, tidyOf}
+use Rattle.segment.specs.Tidy.{tidyForm, roomVerdict, settled, outcome, tidied, tidyOf, tidySized, tidyLengthOf}
 use Rattle.form_laws.specs.Form.{Tidies}
 use Rattle.segment.proofs.Shapes.{v3-shaped}
 use Rattle.form_laws.proofs.SortedForm.{tidy-bytes}
@@ -60,6 +67,45 @@ module _ (pairs s : List ℕ) where
   pub one-tidied : (out : List ℕ) (v w : Written) (x y : List ℕ) → outcome v x ≡ tidyOf pairs s out → outcome w y ≡ tidyOf pairs s out
       → (v ≡ w) × (x ≡ y)
   one-tidied out = one-outcome (tidyOf pairs s out)
+
+-- ---- its length, with nothing written
+
+-- what is answered before the room is looked at, and with it
+sized-is : (v : Verdict) (a : Bool) (q : Refusal) (n m : ℕ) → after Refused (v then must a q) (Done n) ≡ Done m → n ≡ m
+sized-is Accepted true q n m e = cc
+sized-is Accepted false q n m e = cc
+sized-is (Stopped x) a q n m e = cc
+
+told-done : (v : Verdict) (a b : Bool) (q p : Refusal) (n m : ℕ) → after Refused (v then must a q) (Done n) ≡ Done m → b ≡ true
+    → after Refused (v then (must a q then must b p)) (Done n) ≡ Done m
+told-done Accepted true b q p n m e f = rw f e
+told-done Accepted false b q p n m e f = cc
+told-done (Stopped x) a b q p n m e f = cc
+
+told-refused : (v : Verdict) (a b : Bool) (q p : Refusal) (n : ℕ) (r : Refusal) → after Refused (v then must a q) (Done n) ≡ Refused r
+    → after Refused (v then (must a q then must b p)) (Done n) ≡ Refused r
+told-refused Accepted true b q p n r e = cc
+told-refused Accepted false b q p n r e = e
+told-refused (Stopped x) a b q p n r e = e
+
+module _ (pairs s : List ℕ) where
+  -- tidy makes just so many bytes wherever there is room for them
+  pub length-tells : (n room : ℕ) → tidySized pairs s ≡ Done n → n ≤ room → tidied pairs s room ≡ Done n
+  unfolding tidySized tidied settled roomVerdict
+  length-tells n room e l =
+      let m : ℕ = length (tidyBytes s) in
+      let same : m ≡ n = sized-is (checked pairs s) (leb m fileLimit) (refusal Large 0) m n e in
+      told-done (checked pairs s) (leb m fileLimit) (leb m room) (refusal Large 0) (refusal Room 0) m n e (le-leb m room (omega arith))
+
+  -- and refuses so wherever the length is refused
+  pub length-refused : (room : ℕ) (r : Refusal) → tidySized pairs s ≡ Refused r → tidied pairs s room ≡ Refused r
+  unfolding tidySized tidied settled roomVerdict
+  length-refused room r e =
+      let m : ℕ = length (tidyBytes s) in
+      told-refused (checked pairs s) (leb m fileLimit) (leb m room) (refusal Large 0) (refusal Room 0) m r e
+
+  pub one-tidy-length : (v w : Written) → writtenAnswer v ≡ tidyLengthOf pairs s → writtenAnswer w ≡ tidyLengthOf pairs s → v ≡ w
+  one-tidy-length v w e f = written-settled v w (e ∙ sym f)
 
 -- ---- bytes that were written for a meaning
 
