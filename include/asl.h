@@ -95,7 +95,7 @@ enum asl_refusal {
     ASL_REFUSED_ROOM = 13,       /* out is shorter than the result; look up, step: no room for what is found */
     ASL_REFUSED_TABLE = 14,      /* the store's table breaks its rule */
     ASL_REFUSED_LIST = 15,       /* write: start + count passes the end of the lent digests or extents */
-    ASL_REFUSED_LARGE = 16,      /* write: too many entries; write, tidy: result longer than ASL_LIMIT */
+    ASL_REFUSED_LARGE = 16,      /* write: too many entries; write, tidy, tidy length: result longer than ASL_LIMIT */
     ASL_REFUSED_KEY = 17         /* look up: hash id unknown, or digest length not the table's */
 };
 
