@@ -1,4 +1,5 @@
-"""report.py TIMES [FOLDER]: the table, and in FOLDER the table and a plot, of what `bench` measured.
+"""report.py [--hold] TIMES [FOLDER]: the table, and in FOLDER the table and a plot, of what `bench` measured. With --hold
+also the ratios that docs/PERFORMANCE.md wants, and status 1 where one is not met.
 
 A line of TIMES: service, records, order, bytes, then median, fastest and slowest nanoseconds of a call of the library,
 of the C program whose checksum takes one byte at a step, and of that whose checksum takes eight.
@@ -108,6 +109,48 @@ def page(times):
     )
 
 
+# The fastest time of a call: a median moves with whatever else the machine does.
+LIBRARY, BY_ONE = 1, 4
+
+
+def ratio(times, case, checksums=0):
+    """The library's time over that of C with the same kind of checksum, both without so many checksums of the segment."""
+    checksum = ("checksum", *case[1:])
+    library, plain = (times[case][1][side] - checksums * times[checksum][1][side] for side in (LIBRARY, BY_ONE))
+    return library / plain if plain > 0 else math.inf
+
+
+def wanted(times):
+    """Each ratio that docs/PERFORMANCE.md wants of what was measured: its words, the ratio, and the most that it may be."""
+    measured = [case for case in times if case[0] in CHECKSUMS]
+    for case in measured:
+        service, records, order = case
+        words = f"{service}, {records:,} records, {order}"
+        if service == "check" and order == "tidy":
+            yield f"{words}, apart from the checksum", ratio(times, case, CHECKSUMS[service]), 1.3
+            if times[case][0] <= 256:
+                yield words, ratio(times, case), 2
+        if service in ("look_up", "step", "tidy_length"):
+            yield words, ratio(times, case), 1.3
+        if service in ("tidy", "write"):
+            yield words, ratio(times, case), 2
+    for service, records, order in measured:
+        if records == 65536 and (service, 10000, order) in times:
+            few, many = (times[service, n, order][1][LIBRARY] for n in (10000, records))
+            yield f"{service}, {order}, from 10,000 to 65,536 records", many / few, 8
+
+
+def held(times):
+    """Says of each wanted ratio whether it is met; whether all are."""
+    rows = list(wanted(times))
+    print()
+    for words, got, most in rows:
+        print(f"{'held' if got <= most else 'MISSED'}: {words}: {got:.2f}, at most {most}")
+    missed = sum(got > most for _, got, most in rows)
+    print(f"{len(rows) - missed} held, {missed} missed")
+    return rows and not missed
+
+
 # The plot: a line for the library (full) and one for C with the same checksum (dashed) for each service, both axes by powers of ten.
 COLOURS = {
     "check": "#0b6e4f", "look_up": "#1f5fa8", "step": "#5c6b00", "tidy_length": "#a8326e", "tidy": "#b3541e", "write": "#7a3b8f",
@@ -154,13 +197,15 @@ def plot(times):
 
 
 def main():
-    times = read(sys.argv[1])
+    hold = sys.argv[1] == "--hold"
+    path, *folders = sys.argv[1 + hold :]
+    times = read(path)
     print(page(times))
-    if len(sys.argv) > 2:
-        folder = pathlib.Path(sys.argv[2])
+    for folder in map(pathlib.Path, folders):
         folder.mkdir(parents=True, exist_ok=True)
         (folder / "services.md").write_text(page(times) + "\n")
         (folder / "services.svg").write_text(plot(times))
+    return 1 if hold and not held(times) else 0
 
 
-main()
+sys.exit(main())

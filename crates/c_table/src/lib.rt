@@ -4,8 +4,8 @@ ghost use lib.ListN.{length};
 ghost use Rattle.table.specs.Table.{byValue};
 ghost use Rattle.c_table.specs.Lent.{taken};
 
-// How many numbers are taken: none where the last one is unfinished or there are more than a table has. No numbers at all keep
-// the table's rule as little as those do.
+// How many numbers are taken: none where the last one is unfinished or there are more than a table has. An empty table
+// breaks the table's rule too, so such bytes are refused by the same number, 14.
 pub fn count_in(bytes: &[u8]) -> usize
     ensures { λ r. ⌜ r ≡ length (taken (now (bytes .entry))) ⌝ }
 {

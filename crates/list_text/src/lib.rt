@@ -14,7 +14,8 @@ use list_place::Place;
 use segment::header::Header;
 use segment::shape::Shape;
 
-// What there is to write of a segment: its listing from the first place on, or one line of so many bytes that was put.
+// What is to be written for a segment: its listing, from the first place on; or one line, which stands in the output already and has so
+// many bytes.
 pub enum Task {
     Listed,
     Refused(usize),

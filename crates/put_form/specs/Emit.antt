@@ -1,6 +1,6 @@
 -- What the writers of a segment tell each other.
 --   Moderate          sizes whose sums pass no number's width
---   headerFor         the header over so many bloom bytes and records that come to some sizes
+--   headerFor         the header of a segment with so many bloom bytes and records, whose digests and extents have these sizes
 --   Plan              a header of rows' form, which has so many bytes of digests, and is a file of so many bytes
 --   sectionsUnder, bodyUnder   the three sections of rows, and everything before the footer, under such a header
 --   Left, Emitted       what write and tidy answer and leave of a form and an output

@@ -22,7 +22,7 @@ use segment::header::Header;
 use segment::header::Heading;
 use segment::shape::Shape;
 
-// The header over so many bloom bytes and records that come to some sizes.
+// The header of a segment with so many bloom bytes and records, whose digests and extents have these sizes.
 fn header_for(sh: Shape, t: Heading, bloom: u64, count: u64, s: Sizes) -> Header
     requires { ⌜ Shaped sh ⌝ }
     requires { ⌜ Moderate bloom count s ⌝ }
