@@ -213,26 +213,26 @@ def length_of_the_segment(tidy_length):
     return wrong
 
 
-def length_counts_shared_extents_once(tidy_length):
+def shorter_length(tidy_length, excess):
+    """Where a length is answered, it is less by what `excess` makes of the segment's items."""
     def wrong(table, segment):
         number, place, length = tidy_length(table, segment)
         if number == 0:
-            items = asl.examine(asl.lengths_of(table), segment).items
-            used = {extent for item in items for extent in range(
-                item.first_extent, item.first_extent + item.extent_count)}
-            length -= asl.EXTENT.size * (asl.sum_of_extent_counts(items) - len(used))
+            length -= excess(asl.examine(asl.lengths_of(table), segment).items)
         return number, place, length
     return wrong
+
+
+def length_counts_shared_extents_once(tidy_length):
+    def shared(items):
+        used = {extent for item in items for extent in range(
+            item.first_extent, item.first_extent + item.extent_count)}
+        return asl.EXTENT.size * (asl.sum_of_extent_counts(items) - len(used))
+    return shorter_length(tidy_length, shared)
 
 
 def length_without_padding(tidy_length):
-    def wrong(table, segment):
-        number, place, length = tidy_length(table, segment)
-        if number == 0:
-            items = asl.examine(asl.lengths_of(table), segment).items
-            length -= -sum(len(item.digest) for item in items) % 8
-        return number, place, length
-    return wrong
+    return shorter_length(tidy_length, lambda items: -sum(len(item.digest) for item in items) % 8)
 
 
 def length_is_never_large(tidy_length):
