@@ -110,7 +110,7 @@ foundFrom vs =
     let d = getD vs 1 0 in
     let s = sourceFrom (getD vs 2 0) (getD vs 3 0) in
     getD
-    (Absent ∷ Absent ∷ Absent ∷ Absent ∷ Gone v d s ∷ Absent ∷ Absent ∷ Present v d s (getD vs 4 0) (getD vs 5 0) (getD vs 6 0) ∷ [])
+    (Absent ∷ Absent ∷ Absent ∷ Absent ∷ Gone v d s ∷ Absent ∷ Absent ∷ Present v d s (getD vs 4 0) (record { 0 = getD vs 5 0 }) (getD vs 6 0) ∷ [])
     (length vs) Absent
 
 found-back : (f : Found) → taken FoundRefused foundFrom (foundAnswer f) ≡ f

@@ -1,4 +1,4 @@
--- Document 01's table of refusals, "What comes back": the number and the place of each, and what each service's answer says in numbers.
+-- docs/SERVICES.md, "Refusals": the number and the place of each, and what each service's answer says in numbers.
 --   ruleNumber             the number of each rule
 --   refusal                a rule that is broken at a place
 --   numberOf, placeOf      of a refusal
@@ -92,7 +92,7 @@ abbrev pub foundAnswer : Found → Answer
 foundAnswer Absent = answered []
 foundAnswer (Gone visibility domain source) = answered (visibility ∷ domain ∷ sourceValues source)
 foundAnswer (Present visibility domain source total start count) =
-    answered (visibility ∷ domain ∷ sourceValues source ++ (total ∷ start ∷ count ∷ []))
+    answered (visibility ∷ domain ∷ sourceValues source ++ (total ∷ start .0 ∷ count ∷ []))
 foundAnswer (FoundRefused r) = refused r
 
 -- the result's length

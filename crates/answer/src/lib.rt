@@ -1,4 +1,5 @@
 // The refusals, and what check, look up, write and tidy answer. `answer_number::number` gives the number of a refusal's rule.
+use offset::FileOffset;
 
 // The rules that are refused by, each with a number of its own.
 pub enum Rule {
@@ -49,7 +50,7 @@ pub enum Found {
         domain: u32,
         source: Source,
         total: u64,
-        start: u64,
+        start: FileOffset,
         count: u32,
     },
     Refused(Refusal),

@@ -1,4 +1,4 @@
-// Document 01's numbers for a refusal: its number and its place.
+// A refusal in numbers: its number and its place (docs/SERVICES.md, "Refusals").
 ghost use mathlib.Core.Path.{_≡_};
 ghost use Rattle.answer.specs.Answers.{numberOf, placeOf};
 use answer::Refusal;

@@ -1,3 +1,3 @@
 pub mod Places
 pub mod Called
-pub mod Kept
+pub mod Settled

@@ -13,6 +13,7 @@ pub use answer_number::place;
 pub use check_segment::check;
 pub use look_up::look_up;
 pub use look_up_extents::extents_of;
+pub use offset::FileOffset;
 pub use segment::header::Heading;
 pub use segment::record::Record;
 pub use segment::step::Step;

@@ -36,6 +36,7 @@ use Rattle.answer.specs.declared.Refusal.{Refusal}
 use Rattle.answer.specs.declared.Source.{Source}
 use Rattle.answer.specs.declared.Source.the-variants.{None, Domain}
 use Rattle.answer.specs.declared.Found.{Found}
+use Rattle.offset.specs.declared.FileOffset.{FileOffset}
 use Rattle.answer.specs.declared.Found.the-variants.{Absent, Gone, Present, Refused}
 use Rattle.answer.specs.declared.Written.{Written}
 use Rattle.answer.specs.declared.Written.the-variants.{Done, Refused as NotWritten}
@@ -73,7 +74,7 @@ unfolding replied replyOf
 said-gone v d None = refl
 said-gone v d (Domain x) = refl
 
-said-present : (v d : ℕ) (o : Source) (t at n : ℕ) → replied 3 v d o t at n ≡ replyOf (Present v d o t at n)
+said-present : (v d : ℕ) (o : Source) (t : ℕ) (at : FileOffset) (n : ℕ) → replied 3 v d o t (at .0) n ≡ replyOf (Present v d o t at n)
 unfolding replied replyOf
 said-present v d None t at n = refl
 said-present v d (Domain x) t at n = refl
@@ -86,7 +87,7 @@ module _ (f : Found) where
   pub reply-gone : {v d : ℕ} {o : Source} {r : Reply} → f ≡ Gone v d o → r ≡ replied 2 v d o 0 0 0 → r ≡ replyOf f
   reply-gone {v} {d} {o} e g = rw e (g ∙ said-gone v d o)
 
-  pub reply-present : {v d : ℕ} {o : Source} {t at n : ℕ} {r : Reply} → f ≡ Present v d o t at n → r ≡ replied 3 v d o t at n → r ≡ replyOf f
+  pub reply-present : {v d : ℕ} {o : Source} {t : ℕ} {at : FileOffset} {n : ℕ} {r : Reply} → f ≡ Present v d o t at n → r ≡ replied 3 v d o t (at .0) n → r ≡ replyOf f
   reply-present {v} {d} {o} {t} {at} {n} e g = rw e (g ∙ said-present v d o t at n)
 
   pub reply-refused : {x : Refusal} {n p : ℕ} → f ≡ Refused x → n ≡ numberOf x → p ≡ placeOf x

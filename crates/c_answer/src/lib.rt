@@ -25,6 +25,7 @@ use answer::Refusal;
 use answer::Rule;
 use answer::Source;
 use answer::Written;
+use offset::FileOffset;
 use segment::record::Record;
 
 // Look up's answer in numbers.
@@ -70,10 +71,10 @@ fn found(
     domain: u32,
     source: Source,
     total: u64,
-    start: u64,
+    start: FileOffset,
     count: u32,
 ) -> Reply
-    ensures { λ r. ⌜ r ≡ replied state visibility domain source total start count ⌝ }
+    ensures { λ r. ⌜ r ≡ replied state visibility domain source total (start .0) count ⌝ }
 {
     let v = visibility as u64;
     let d = domain as u64;
@@ -82,12 +83,12 @@ fn found(
         Source::None => Reply {
             number: 0,
             place: 0,
-            values: [state, v, d, 0, 0, total, start, n],
+            values: [state, v, d, 0, 0, total, start.0, n],
         },
         Source::Domain(from) => Reply {
             number: 0,
             place: 0,
-            values: [state, v, d, 1, from as u64, total, start, n],
+            values: [state, v, d, 1, from as u64, total, start.0, n],
         },
     }
 }
@@ -105,7 +106,7 @@ pub fn in_numbers(f: Found) -> Reply
             visibility,
             domain,
             source,
-        } => found(2, visibility, domain, source, 0, 0, 0),
+        } => found(2, visibility, domain, source, 0, FileOffset(0), 0),
         Found::Present {
             visibility,
             domain,

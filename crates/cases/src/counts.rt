@@ -1,4 +1,4 @@
-// Document 01's case of write: 65,536 and 65,537 entries.
+// The case of write in docs/SERVICES.md, "Cases": 65,536 and 65,537 entries.
 ghost use mathlib.Core.Path.{_≡_};
 ghost use Prim.Native.Nat.{_*_};
 ghost use lib.ListN.{length};

@@ -78,16 +78,16 @@ module _ (sh : Shape) (s : List ℕ) (h : Header) (r : Record) where
 
 module _ (sh : Shape) (s list : List ℕ) (h : Header) (l : Laid sh s h) where
   item : (k : ℕ) → k < recordCount h → recordNo sh s h k .«digest_offset» .0 + recordNo sh s h k .«digest_length» ≤ length s
-      → Item (Records (recordsOffset h) sh) s list k
+      → Item (Records (h .«records_offset») sh) s list k
   unfolding Stands itemSpan recordSpan recordNo
   item k i d = record { stands = record { shaped = l .shaped; inside = record-inside l k i }; digest = d }
 
   -- of records that meet the rules, when not all of the segment's are tried yet
   pub met-items : (pairs : List ℕ) → ((k : ℕ) → k < recordCount h → RecordMeets sh pairs s h (recordNo sh s h k))
-      → Items (Records (recordsOffset h) sh) s list (recordCount h)
+      → Items (Records (h .«records_offset») sh) s list (recordCount h)
   met-items pairs m = record { each = λ k i. item k i (digest-inside s h (recordNo sh s h k) pairs (laid-inside l) (m k i .digest)) }
 
-pub items : (sh : Shape) (s list : List ℕ) (h : Header) → Readable sh s h → Items (Records (recordsOffset h) sh) s list (recordCount h)
+pub items : (sh : Shape) (s list : List ℕ) (h : Header) → Readable sh s h → Items (Records (h .«records_offset») sh) s list (recordCount h)
 items sh s list h v = record { each = λ k i. item sh s list h (v .laid) k i (v .each k i .digest) }
 
 -- ---- the whole

@@ -5,6 +5,8 @@ use mathlib.Core.Path.{_≡_, sym, _∙_}
 use mathlib.Core.Bool.{true, false}
 use mathlib.Core.List.{List, _∷_}
 use native.Mathlib.Omega.{arith}
+use borrow.Author.Tests.{ltb-true, ltb-false}
+use lib.Dec.{ltb}
 use Rattle.numbers.specs.Numbers.{numAt}
 use Rattle.answer.specs.declared.Refusal.{Refusal}
 use Rattle.answer.specs.declared.Rule.the-variants.{Extents, Total}
@@ -16,7 +18,7 @@ use Rattle.segment.specs.declared.header.Header.{Header}
 use Rattle.segment.specs.declared.record.Record.{Record}
 use Rattle.segment.specs.declared.extent.Extent.{Extent}
 use Rattle.segment.specs.declared.shape.Shape.{Shape}
-use Rattle.segment.specs.Format.{extentsOffset, extentCount, extentOf, extentsAt, extentsIn}
+use Rattle.segment.specs.Format.{blockEnd, extentsOffset, extentCount, extentOf, extentsAt, extentsIn}
 use Rattle.segment.specs.Check.{allFit, sumLengths, extentsVerdict, liveTotal, totalVerdict}
 use Rattle.segment.specs.Meets.{ExtentsMeet}
 use Rattle.check_book.proofs.TablesRecord.{extents-book, extents-refuses}
@@ -102,20 +104,24 @@ module _ (s : List ℕ) (at count i sum offset size : ℕ) (v : Summing s at cou
   rest : List Extent
   rest = extentsAt s (at + 16 * (i + 1)) (count - (i + 1))
 
-  pub sum-past : 4294967296 < offset + size → Past ≡ summed (extentsAt s at count)
+  pub sum-past : ltb blockEnd (offset + size) ≡ true → Past ≡ summed (extentsAt s at count)
   unfolding summed allFit extentOf
-  sum-past l = rw (v .fits, next-extent s at count i h, ← p, ← q) (simp tests)
+  sum-past t =
+      let l : 4294967296 < offset + size = ltb-true 4294967296 (offset + size) t in
+      rw (v .fits, next-extent s at count i h, ← p, ← q) (simp tests)
 
-  pub sum-more : offset + size ≤ 4294967296 → size ≤ 4294967295 → Summing s at count (i + 1) (sum + size)
+  pub sum-more : ltb blockEnd (offset + size) ≡ false → size ≤ 4294967295 → Summing s at count (i + 1) (sum + size)
   unfolding rest allFit sumLengths extentOf
-  sum-more l m = record {
-    within = omega arith;
-    fits = v .fits ∙ rw (next-extent s at count i h, ← p, ← q) (simp tests);
-    sums =
-        let e : sumLengths (extentsAt s (at + 16 * i) (count - i)) ≡ size + sumLengths rest = rw (next-extent s at count i h, ← q) in
-        v .sums ∙ rw e (omega arith);
-    small = omega (arith, v .small);
-  }
+  sum-more t m =
+      let l : offset + size ≤ 4294967296 = ltb-false 4294967296 (offset + size) t in
+      record {
+        within = omega arith;
+        fits = v .fits ∙ rw (next-extent s at count i h, ← p, ← q) (simp tests);
+        sums =
+            let e : sumLengths (extentsAt s (at + 16 * i) (count - i)) ≡ size + sumLengths rest = rw (next-extent s at count i h, ← q) in
+            v .sums ∙ rw e (omega arith);
+        small = omega (arith, v .small);
+      }
 
 pub sum-done : (s : List ℕ) (at count i sum : ℕ) → Summing s at count i sum → count ≤ i → Of sum ≡ summed (extentsAt s at count)
 unfolding summed allFit sumLengths extentsAt

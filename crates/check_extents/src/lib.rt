@@ -1,9 +1,10 @@
 // The rules of a record's extents and total: 9 and 10.
 ghost use mathlib.Core.Path.{_≡_};
 ghost use Prim.Native.Nat.{_+_, _*_, _<_, _≤_};
+ghost use lib.Dec.{ltb};
 ghost use lib.ListN.{length};
 ghost use Rattle.answer.specs.declared.Verdict.the-variants.{Accepted};
-ghost use Rattle.segment.specs.Format.{extentSize, extentsAt};
+ghost use Rattle.segment.specs.Format.{extentSize, blockEnd, extentsAt};
 ghost use Rattle.segment.specs.Check.{extentsVerdict, totalVerdict};
 ghost use Rattle.check_book.specs.Readable.{Inside};
 ghost use Rattle.check_extents.specs.ExtentRules.{summed, slicesRules};
@@ -11,6 +12,8 @@ use answer::Refusal;
 use answer::Rule;
 use answer::Verdict;
 use field_record::extent;
+use offset::BlockOffset;
+use offset::FileOffset;
 use segment::extent::Extent;
 use segment::header::Header;
 use segment::record::Record;
@@ -22,20 +25,26 @@ pub enum Sum {
     Past,
 }
 
-fn sum_extents(seg: &[u8], at: usize, count: usize) -> Sum
-    requires { ⌜ (at + extentSize * count ≤ length (now seg)) × (count < 4294967296) ⌝ }
-    ensures { λ r. ⌜ r ≡ summed (extentsAt (now (seg .entry)) at count) ⌝ }
+// Whether a slice passes the end of its block.
+fn passes_block(offset: BlockOffset, size: u32) -> bool
+    ensures { λ r. ⌜ r ≡ ltb blockEnd (offset .0 + size) ⌝ }
+{
+    4294967296 < offset.0 as u64 + size as u64
+}
+
+fn sum_extents(seg: &[u8], at: FileOffset, count: u64) -> Sum
+    requires { ⌜ (at .0 + extentSize * count ≤ length (now seg)) × (count < 4294967296) ⌝ }
+    ensures { λ r. ⌜ r ≡ summed (extentsAt (now (seg .entry)) (at .0) count) ⌝ }
 {
     let mut sum: u64 = 0;
     let mut i = 0;
     while i < count {
-        let here = at + Extent::SIZE * i;
-        let offset = extent::offset(seg, here).0 as u64;
-        let size = extent::length(seg, here) as u64;
-        if 4294967296 < offset + size {
+        let here = FileOffset(at.0 + Extent::LONG * i);
+        let size = extent::length(seg, here);
+        if passes_block(extent::offset(seg, here), size) {
             return Sum::Past;
         }
-        sum += size;
+        sum += size as u64;
         i += 1;
     }
     Sum::Of(sum)
@@ -87,7 +96,7 @@ fn check_total(sh: Shape, seg: &[u8], h: Header, r: Record, place: u64) -> Verdi
         }
         return Verdict::Accepted;
     }
-    match sum_extents(seg, r.extents_offset.0 as usize, r.extent_count as usize) {
+    match sum_extents(seg, r.extents_offset, r.extent_count as u64) {
         Sum::Past => {
             return Verdict::Refused(Refusal(Rule::Total, place));
         }

@@ -11,6 +11,7 @@ use answer::Refusal;
 use answer::Rule;
 use answer::Verdict;
 use field_frame::footer;
+use offset::FileOffset;
 use segment::extent::Extent;
 use segment::footer::Footer;
 use segment::header;
@@ -44,28 +45,28 @@ fn check_head(sh: Shape, h: Header) -> Verdict
     Verdict::Accepted
 }
 
-// Whether whole is a + b, over whole numbers.
-fn is_sum(whole: u64, a: u64, b: u64) -> bool
-    ensures { λ r. ⌜ r ≡ eqb whole (a + b) ⌝ }
+// Whether a section begins where so many bytes end that begin at a place, over whole numbers.
+fn follows(section: FileOffset, at: FileOffset, size: u64) -> bool
+    ensures { λ r. ⌜ r ≡ eqb (section .0) (at .0 + size) ⌝ }
 {
-    if whole < a {
+    if section.0 < at.0 {
         return false;
     }
-    whole - a == b
+    section.0 - at.0 == size
 }
 
 // Whether a file of n bytes ends as it should: count extents from a place on, and the footer.
-fn ends_so(n: u64, extents: u64, count: u64) -> bool
-    ensures { λ r. ⌜ r ≡ eqb n (extents + extentSize * count + footerSize) ⌝ }
+fn ends_so(n: u64, extents: FileOffset, count: u64) -> bool
+    ensures { λ r. ⌜ r ≡ eqb n (extents .0 + extentSize * count + footerSize) ⌝ }
 {
     if n < Footer::LONG {
         return false;
     }
     let body = n - Footer::LONG;
-    if body < extents {
+    if body < extents.0 {
         return false;
     }
-    let rest = body - extents;
+    let rest = body - extents.0;
     if rest % Extent::LONG != 0 {
         return false;
     }
@@ -76,7 +77,7 @@ fn check_layout(sh: Shape, h: Header, n: u64) -> Verdict
     requires { ⌜ Shaped sh ⌝ }
     ensures { λ r. ⌜ r ≡ layoutVerdict sh h n ⌝ }
 {
-    if h.bloom_offset.0 != header::bloom_place(h.bloom_size) {
+    if h.bloom_offset.0 != header::bloom_place(h.bloom_size).0 {
         return Verdict::Refused(Refusal(Rule::Layout, 0));
     }
     if h.bloom_size % 8 != 0 {
@@ -85,12 +86,12 @@ fn check_layout(sh: Shape, h: Header, n: u64) -> Verdict
     if segment::MOST_RECORDS < h.record_count {
         return Verdict::Refused(Refusal(Rule::Layout, 0));
     }
-    if !is_sum(h.records_offset.0, Header::LONG, h.bloom_size) {
+    if !follows(h.records_offset, FileOffset(Header::LONG), h.bloom_size) {
         return Verdict::Refused(Refusal(Rule::Layout, 0));
     }
-    if !is_sum(
-        h.digests_offset.0,
-        h.records_offset.0,
+    if !follows(
+        h.digests_offset,
+        h.records_offset,
         sh.record_size as u64 * h.record_count,
     ) {
         return Verdict::Refused(Refusal(Rule::Layout, 0));
@@ -98,10 +99,10 @@ fn check_layout(sh: Shape, h: Header, n: u64) -> Verdict
     if h.digests_size % 8 != 0 {
         return Verdict::Refused(Refusal(Rule::Layout, 0));
     }
-    if !is_sum(h.extents_offset.0, h.digests_offset.0, h.digests_size) {
+    if !follows(h.extents_offset, h.digests_offset, h.digests_size) {
         return Verdict::Refused(Refusal(Rule::Layout, 0));
     }
-    if !ends_so(n, h.extents_offset.0, h.extent_count) {
+    if !ends_so(n, h.extents_offset, h.extent_count) {
         return Verdict::Refused(Refusal(Rule::Layout, 0));
     }
     Verdict::Accepted
@@ -126,7 +127,7 @@ pub fn check_checksum(seg: &[u8]) -> Verdict
     ensures { λ r. ⌜ r ≡ checksumVerdict (now (seg .entry)) ⌝ }
 {
     let end = seg.len() - Footer::SIZE;
-    let stored = footer::checksum(seg, end);
+    let stored = footer::checksum(seg, FileOffset(end as u64));
     if crc64::crc64_plain(&seg[..end]) != stored {
         return Verdict::Refused(Refusal(Rule::Checksum, 0));
     }

@@ -123,11 +123,11 @@ pub fn check_records(sh: Shape, pairs: &[u64], seg: &[u8], h: Header) -> Passed
     ensures { λ p. ⌜ p ≡ passed sh (now (pairs .entry)) (now (seg .entry)) h (h .«record_count») ⌝ }
 {
     let count = h.record_count as usize;
-    let first = h.records_offset.0 as usize;
+    let first = h.records_offset;
     let mut largest: u8 = 0;
     let mut k = 0;
     while k < count {
-        let r = Record::nth(sh, seg, first, k);
+        let r = sh.nth_record(seg, first, k);
         match check_record(sh, pairs, seg, h, r, record::place_of(sh, first, k)) {
             Verdict::Refused(x) => {
                 return Passed::Refused(x);

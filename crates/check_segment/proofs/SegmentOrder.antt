@@ -16,7 +16,7 @@ use Rattle.lists.proofs.Tests.{tests}
 use Rattle.answer.proofs.Order.{then-assoc}
 use Rattle.segment.specs.declared.header.Header.{Header}
 use Rattle.segment.specs.declared.shape.Shape.{Shape}
-use Rattle.segment.specs.Format.{v3, headerOf, recordNo, recordCount, recordsOffset}
+use Rattle.segment.specs.Format.{v3, headerOf, recordNo, recordCount}
 use Rattle.table.specs.Table.{goodTable, tableVerdict}
 use Rattle.segment.specs.Check.{sizeVerdict, headVerdict, layoutVerdict, checksumVerdict, segmentRules, segmentVerdict, checked, checkOf, recordVerdict, largestBelow, visibilityNo, visibilityVerdict, digestIn, keyNo, recordPlace}
 use Rattle.segment.specs.Keys.{freshKey}
@@ -31,7 +31,7 @@ use Rattle.check_segment.specs.SegmentParts.{contentsVerdict, bodyRules}
 
 -- the keys of the records, as items and as records
 same-keys : (sh : Shape) (s list : List ℕ) (h : Header) (n : ℕ)
-    → firstOver n (freshKey (itemKey (Records (recordsOffset h) sh) s list) (itemPlace (Records (recordsOffset h) sh))) ≡ firstOver n (freshKey (keyNo sh s h) (recordPlace sh h))
+    → firstOver n (freshKey (itemKey (Records (h .«records_offset») sh) s list) (itemPlace (Records (h .«records_offset») sh))) ≡ firstOver n (freshKey (keyNo sh s h) (recordPlace sh h))
 unfolding itemKey itemPlace itemHash itemDigest itemSpan recordSpan keyNo digestIn recordNo
 same-keys sh s list h n = refl
 
@@ -69,7 +69,7 @@ module _ (sh : Shape) (pairs s : List ℕ) (h : Header) where
     shown-wrong d = rw (all-passed, ← largest-is, ne-eqb (h .visibility) v (λ q. d (sym q)))
 
     pub keys-told : (list : List ℕ) {w : Verdict} → v ≡ h .visibility
-        → w ≡ firstOver (recordCount h) (freshKey (itemKey (Records (recordsOffset h) sh) s list) (itemPlace (Records (recordsOffset h) sh)))
+        → w ≡ firstOver (recordCount h) (freshKey (itemKey (Records (h .«records_offset») sh) s list) (itemPlace (Records (h .«records_offset») sh)))
         → w ≡ contentsVerdict sh pairs s h
     unfolding contentsVerdict visibilityVerdict
     keys-told list d f = f ∙ same-keys sh s list h (recordCount h) ∙ rw (all-passed, ← largest-is, eq-eqb (h .visibility) v (sym d))

@@ -1,4 +1,4 @@
-// Check: the first rule of document 01 that a segment breaks under a table, or that it is accepted.
+// Check: the first rule that a segment breaks under a table, or that it is accepted (docs/SERVICES.md, "The order of refusals").
 ghost use mathlib.Core.Path.{_≡_};
 ghost use Prim.Native.Nat.{_≤_};
 ghost use lib.ListN.{length};
@@ -37,7 +37,7 @@ fn check_contents(sh: Shape, pairs: &[u64], seg: &[u8], h: Header) -> Verdict
             }
         }
     }
-    let at = h.records_offset.0 as usize;
+    let at = h.records_offset;
     let n = h.record_count as usize;
     if key_ascending::keys_climb(Kind::Records(at, sh), seg, &key::NO_LIST, n) {
         return Verdict::Accepted;

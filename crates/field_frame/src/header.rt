@@ -1,10 +1,10 @@
-// The header, field by field as document 01 lists it. Each function is told that the segment has a whole header.
+// The header, field by field as docs/FORMAT.md, "The header", lists it. Each function is told that the segment has a whole header.
 ghost use mathlib.Core.Path.{_≡_};
 ghost use Prim.Native.Nat.{_≤_};
 ghost use lib.ListN.{length};
 ghost use Rattle.numbers.specs.Numbers.{numAt};
 ghost use Rattle.field_record.specs.Sizes.{headerSize};
-use field_record::FileOffset;
+use offset::FileOffset;
 
 pub const MAGIC: usize = 0;
 

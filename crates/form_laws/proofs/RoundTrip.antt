@@ -1,4 +1,4 @@
--- What is written is read back, and keeps document 01's rules: the round trip of the tidy form, for rows in any order.
+-- What is written is read back, and keeps the rules of docs/FORMAT.md: the round trip of the tidy form, for rows in any order.
 --   form-means    the meaning of a form is what it was written for
 --   form-meets    a form meets every rule
 -- Assumes nothing.

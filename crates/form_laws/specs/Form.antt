@@ -1,4 +1,4 @@
--- What may be written: a heading, bloom bytes and records whose numbers fit their fields and keep document 01's rules, no two of them with the same
+-- What may be written: a heading, bloom bytes and records whose numbers fit their fields and keep the rules of docs/FORMAT.md, no two of them with the same
 -- key. What is said of the records is said in any order.
 --   Writable    of one record, under a table
 --   Contents    of everything that a segment means

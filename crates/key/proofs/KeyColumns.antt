@@ -6,6 +6,7 @@ use mathlib.Core.List.{List}
 use native.Mathlib.Omega.{arith}
 use lib.ListN.{length, getD, take, drop}
 use Rattle.numbers.specs.Numbers.{numAt}
+use Rattle.offset.specs.declared.FileOffset.{FileOffset}
 use Rattle.segment.specs.declared.shape.Shape.{Shape}
 use Rattle.segment.specs.Format.{entrySize, recordFrom, recordOf}
 use Rattle.segment.specs.declared.entry.Entry.{Entry}
@@ -18,12 +19,12 @@ use Rattle.key.specs.declared.Span.{Span}
 use Rattle.key.specs.Items.{recordSpan, entrySpan, itemHash, itemSpan, itemDigest, itemPlace, RecordStands, Stands, Item}
 
 module _ (kind : Kind) (bytes list : List ℕ) (k : ℕ) where
-  pub record-stands : (first : ℕ) (sh : Shape) → kind ≡ Records first sh → Item kind bytes list k → RecordStands first sh bytes k
+  pub record-stands : (first : FileOffset) (sh : Shape) → kind ≡ Records first sh → Item kind bytes list k → RecordStands first sh bytes k
   unfolding Stands
   record-stands first sh e i = subst (λ (q : Kind). Stands q bytes list k) e (i .stands)
 
   -- the fields that every version has lie in it
-  pub record-fields : (first : ℕ) (sh : Shape) (at : ℕ) → kind ≡ Records first sh → Item kind bytes list k → at ≡ recordFrom sh first k → at + 48 ≤ length bytes
+  pub record-fields : (first : FileOffset) (sh : Shape) (at : ℕ) → kind ≡ Records first sh → Item kind bytes list k → at ≡ recordFrom sh (first .0) k → at + 48 ≤ length bytes
   record-fields first sh at e i q =
       let s = record-stands first sh e i in
       omega (arith, s .inside, shaped-least sh (s .shaped))
@@ -32,7 +33,7 @@ module _ (kind : Kind) (bytes list : List ℕ) (k : ℕ) where
   unfolding Stands
   entry-stands e i = subst (λ (q : Kind). Stands q bytes list k) e (i .stands)
 
-  pub record-hash : (first : ℕ) (sh : Shape) {r at : ℕ} → kind ≡ Records first sh → at ≡ recordFrom sh first k → r ≡ numAt 4 bytes at → r ≡ itemHash kind bytes list k
+  pub record-hash : (first : FileOffset) (sh : Shape) {r at : ℕ} → kind ≡ Records first sh → at ≡ recordFrom sh (first .0) k → r ≡ numAt 4 bytes at → r ≡ itemHash kind bytes list k
   unfolding itemHash recordOf
   record-hash first sh e q h = rw (e, ← q) h
 
@@ -40,7 +41,7 @@ module _ (kind : Kind) (bytes list : List ℕ) (k : ℕ) where
   unfolding itemHash
   entry-hash e h = rw (e, h)
 
-  pub record-digest : (first : ℕ) (sh : Shape) {r : Span} {at : ℕ} → kind ≡ Records first sh → at ≡ recordFrom sh first k → r ≡ recordSpan sh bytes at
+  pub record-digest : (first : FileOffset) (sh : Shape) {r : Span} {at : ℕ} → kind ≡ Records first sh → at ≡ recordFrom sh (first .0) k → r ≡ recordSpan sh bytes at
       → r ≡ itemSpan kind bytes list k
   unfolding itemSpan
   record-digest first sh e q h = rw (e, ← q) h
@@ -62,7 +63,7 @@ module _ (kind : Kind) (bytes list : List ℕ) (k : ℕ) where
 
 -- ---- where it is refused
 
-pub record-place : (kind : Kind) (k first : ℕ) (sh : Shape) {r : ℕ} → kind ≡ Records first sh → r ≡ placeFrom sh first k → r ≡ itemPlace kind k
+pub record-place : (kind : Kind) (k : ℕ) (first : FileOffset) (sh : Shape) {r : ℕ} → kind ≡ Records first sh → r ≡ placeFrom sh (first .0) k → r ≡ itemPlace kind k
 unfolding itemPlace
 record-place kind k first sh e h = rw e h
 

@@ -9,6 +9,7 @@
 use Prim.Native.Nat.{ℕ, _+_, _*_, _≤_, _<_}
 use mathlib.Core.List.{List}
 use lib.ListN.{length, getD, take, drop}
+use Rattle.offset.specs.declared.FileOffset.{FileOffset}
 use Rattle.segment.specs.declared.shape.Shape.{Shape}
 use Rattle.segment.specs.Format.{entrySize, recordFrom, recordOf}
 use Rattle.segment.specs.Shapes.{Shaped}
@@ -29,11 +30,11 @@ unfoldable pub entrySpan : Entry → Span
 entrySpan e = record { start = e .«digest_start»; size = e .«digest_length» }
 
 unfoldable pub itemHash : Kind → List ℕ → List ℕ → ℕ → ℕ
-itemHash (Records first sh) bytes list k = recordOf sh bytes (recordFrom sh first k) .«hash_id»
+itemHash (Records first sh) bytes list k = recordOf sh bytes (recordFrom sh (first .0) k) .«hash_id»
 itemHash Entries bytes list k = entryNo list k .«hash_id»
 
 unfoldable pub itemSpan : Kind → List ℕ → List ℕ → ℕ → Span
-itemSpan (Records first sh) bytes list k = recordSpan sh bytes (recordFrom sh first k)
+itemSpan (Records first sh) bytes list k = recordSpan sh bytes (recordFrom sh (first .0) k)
 itemSpan Entries bytes list k = entrySpan (entryNo list k)
 
 unfoldable pub itemDigest : Kind → List ℕ → List ℕ → ℕ → List ℕ
@@ -47,13 +48,13 @@ itemKey kind bytes list k = keyOf (keyFrom (itemHash kind bytes list k) (itemDig
 
 -- the place of a refusal of an item
 unfoldable pub itemPlace : Kind → ℕ → ℕ
-itemPlace (Records first sh) k = placeFrom sh first k
+itemPlace (Records first sh) k = placeFrom sh (first .0) k
 itemPlace Entries k = entryPlace k
 
 -- a record stands in the bytes
-pub record RecordStands (first : ℕ) (sh : Shape) (bytes : List ℕ) (k : ℕ) : Type 0 where
+pub record RecordStands (first : FileOffset) (sh : Shape) (bytes : List ℕ) (k : ℕ) : Type 0 where
   pub shaped : Shaped sh
-  pub inside : recordFrom sh first k + sh .«record_size» ≤ length bytes
+  pub inside : recordFrom sh (first .0) k + sh .«record_size» ≤ length bytes
 
 -- the item itself stands in its source
 unfoldable pub Stands : Kind → List ℕ → List ℕ → ℕ → Type 0

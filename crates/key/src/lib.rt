@@ -7,15 +7,16 @@ ghost use Rattle.segment.specs.Format.{leastRecord};
 ghost use Rattle.key.specs.Items.{recordSpan, entrySpan, Item, itemHash, itemHead, itemSpan, itemDigest, itemPlace};
 use crate::head::Head;
 use field_record::record as fields;
+use offset::FileOffset;
 use segment::entry::Entry;
 use segment::record;
 use segment::shape::Shape;
 
 pub mod head;
 
-// The records of a shape that begin at a byte of the segment, or the entries of a flat list, nine numbers each.
+// The records of a shape that begin at a place in the segment, or the entries of a flat list, nine numbers each.
 pub enum Kind {
-    Records(usize, Shape),
+    Records(FileOffset, Shape),
     Entries,
 }
 
@@ -48,9 +49,9 @@ pub fn head_of(kind: Kind, bytes: &[u8], list: &[u64], k: usize) -> Head
     }
 }
 
-fn record_span(sh: Shape, bytes: &[u8], at: usize) -> Span
-    requires { ⌜ at + leastRecord ≤ length (now bytes) ⌝ }
-    ensures { λ r. ⌜ r ≡ recordSpan sh (now (bytes .entry)) at ⌝ }
+fn record_span(sh: Shape, bytes: &[u8], at: FileOffset) -> Span
+    requires { ⌜ at .0 + leastRecord ≤ length (now bytes) ⌝ }
+    ensures { λ r. ⌜ r ≡ recordSpan sh (now (bytes .entry)) (at .0) ⌝ }
 {
     let start = fields::digest_offset(bytes, at).0 as usize;
     let size = fields::digest_length(bytes, at) as usize;

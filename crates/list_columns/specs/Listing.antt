@@ -1,4 +1,4 @@
--- Document 01, "The listing": two sections, each after its count; a refused input gives one line; a longer input gives `too long`.
+-- docs/SERVICES.md, "The listing": two sections, each after its count; a refused input gives one line; a longer input gives `too long`.
 --   recordLine    number, hash id, digest, state, visibility, source or `-`, total, extent count
 --   extentLine    record, extent, block, offset, length
 --   listing       the whole, as a function of the meaning

@@ -59,9 +59,10 @@ pub fn put_count(name: &[u8], n: u64, at: usize, out: &mut [u8]) -> usize
 }
 
 // The one line of a refused segment.
-pub fn put_refusal(r: Refusal, out: &mut [u8; 64]) -> usize
-    ensures { λ e. ⌜ Appended 53 (now (out .entry)) 0 (refusalLine r) (now (out .exit)) e ⌝ }
+pub fn put_refusal(r: Refusal, at: usize, out: &mut [u8]) -> usize
+    requires { ⌜ at + 53 ≤ length (now out) ⌝ }
+    ensures { λ e. ⌜ Appended 53 (now (out .entry)) at (refusalLine r) (now (out .exit)) e ⌝ }
 {
-    let p1 = put_named(b"refused", answer_number::number(r), BLANK, 0, out);
+    let p1 = put_named(b"refused", answer_number::number(r), BLANK, at, out);
     put_named(b"at", answer_number::place(r), NEWLINE, p1, out)
 }

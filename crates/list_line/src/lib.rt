@@ -8,9 +8,9 @@ ghost use Rattle.check_book.specs.Readable.{Readable};
 ghost use Rattle.list_place.specs.Pieces.{recordPiece, rowPiece, pieceAt};
 ghost use Rattle.list_line.specs.Stopped.{Stopped};
 use list_place::Place;
+use offset::FileOffset;
 use segment::extent::Extent;
 use segment::header::Header;
-use segment::record::Record;
 use segment::shape::Shape;
 
 // Where the listing goes on, and where in the output.
@@ -24,12 +24,12 @@ fn count_extents(sh: Shape, seg: &[u8], h: Header) -> u64
     requires { ⌜ Readable sh (now seg) h ⌝ }
     ensures { λ r. ⌜ r ≡ extentsListed (meaningOf sh (now (seg .entry))) ⌝ }
 {
-    let first = h.records_offset.0 as usize;
+    let first = h.records_offset;
     let count = h.record_count as usize;
     let mut sum: u64 = 0;
     let mut k = 0;
     while k < count {
-        let r = Record::nth(sh, seg, first, k);
+        let r = sh.nth_record(seg, first, k);
         sum += r.extent_count as u64;
         k += 1;
     }
@@ -48,8 +48,8 @@ fn put_record(sh: Shape, seg: &[u8], h: Header, k: usize, at: usize, out: &mut [
             end: at,
         };
     }
-    let first = h.records_offset.0 as usize;
-    let r = Record::nth(sh, seg, first, k);
+    let first = h.records_offset;
+    let r = sh.nth_record(seg, first, k);
     let start = r.digest_offset.0 as usize;
     let stop = start + r.digest_length as usize;
     let end = list_record::put_record(k, r, &seg[start..stop], at, out);
@@ -79,15 +79,18 @@ fn put_extent(
             end: at,
         };
     }
-    let first = h.records_offset.0 as usize;
-    let r = Record::nth(sh, seg, first, k);
+    let first = h.records_offset;
+    let r = sh.nth_record(seg, first, k);
     if r.extent_count as usize <= j {
         return Stop {
             next: Place::ExtentLine(k + 1, 0),
             end: at,
         };
     }
-    let e = Extent::at(seg, r.extents_offset.0 as usize + Extent::SIZE * j);
+    let e = Extent::at(
+        seg,
+        FileOffset(r.extents_offset.0 + Extent::LONG * (j as u64)),
+    );
     let end = list_columns::put_extent(k, j, e, at, out);
     Stop {
         next: Place::ExtentLine(k, j + 1),

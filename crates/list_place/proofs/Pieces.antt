@@ -1,4 +1,4 @@
--- The pieces from a place on, one after another, are the listing from that place on.
+-- The listing from a place on is what is filled there, and the listing from where that stops; with room for a line, fewer pieces are left.
 -- Assumes nothing.
 use Prim.Native.Nat.{ℕ, zero, suc, _+_, _-_, _≤_, _<_}
 use mathlib.Core.Path.{_≡_, refl, sym, ap, _∙_}
@@ -35,8 +35,6 @@ use Rattle.list_place.specs.Pieces.{
   extentPart,
   extentsFromRow,
   textFrom,
-  pieces,
-  fills,
 }
 
 -- ---- behind the first of what is left
@@ -97,32 +95,16 @@ module _ (m : Meaning) where
   step (ExtentLine k j) n = row-step k j (drop k (m .records)) refl
   step Done n = absurd (false≢true (sym n))
 
-  done : (p : Place) → isDone p ≡ true → p ≡ Done
+  pub done : (p : Place) → isDone p ≡ true → p ≡ Done
   done RecordCount e = cc
   done (RecordLine k) e = cc
   done ExtentCount e = cc
   done (ExtentLine k j) e = cc
   done Done e = refl
 
-  nothing-left : (p : Place) → isDone p ≡ true → (textFrom m p ≡ []) × (piecesFrom m p ≡ 0)
+  pub nothing-left : (p : Place) → isDone p ≡ true → (textFrom m p ≡ []) × (piecesFrom m p ≡ 0)
   unfolding textFrom piecesFrom
   nothing-left p e = rw (done p e) (refl, refl)
-
-  -- ---- all of them
-
-  -- as many pieces as are left are the text
-  all-pieces : (n : ℕ) (p : Place) → piecesFrom m p ≡ n → pieces n m p ≡ textFrom m p
-  unfolding pieces
-  all-pieces zero p e =
-      by-test (isDone p) (λ d. sym (nothing-left p d .0)) (λ d. absurd (omega (arith, step p d .1)))
-  all-pieces (suc n) p e =
-      by-test (isDone p) (λ d. absurd (omega (arith, nothing-left p d .1)))
-      (λ d. ap (λ (t : List ℕ). pieceAt m p .text ++ t) (all-pieces n (pieceAt m p .next) (omega (arith, step p d .1))) ∙ sym (step p d .0))
-
-  -- the pieces from the first place on, one after another, are the whole listing
-  pub listing-in-pieces : pieces (piecesFrom m RecordCount) m RecordCount ≡ listing m
-  unfolding textFrom
-  listing-in-pieces = all-pieces (piecesFrom m RecordCount) RecordCount refl
 
   -- ---- as many as have room
 
@@ -173,20 +155,3 @@ module _ (m : Meaning) where
   pub filled-on : (p : Place) (room : ℕ) → longestLine ≤ room → isDone p ≡ false → piecesFrom m (filled m p room .next) < piecesFrom m p
   filled-on p room h d =
       rw (filled-more p room h d) (omega (arith, step p d .1, filled-left (pieceAt m p .next) (room - length (pieceAt m p .text))))
-
-  all-fills : (n room : ℕ) (p : Place) → longestLine ≤ room → piecesFrom m p ≤ n → fills n m room p ≡ textFrom m p
-  unfolding fills
-  all-fills zero room p h l =
-      by-test (isDone p) (λ d. sym (nothing-left p d .0)) (λ d. absurd (omega (arith, step p d .1)))
-  all-fills (suc n) room p h l =
-      ap (λ (t : List ℕ). filled m p room .text ++ t)
-      (all-fills n room (filled m p room .next) h
-      (by-test (isDone p)
-      (λ d. let z : piecesFrom m (filled m p room .next) ≡ 0 = ap (λ (x : Piece). piecesFrom m (x .next)) (filled-done p room d) ∙ nothing-left p d .1 in omega arith)
-      (λ d. omega (arith, filled-on p room h d))))
-      ∙ sym (filled-text p room)
-
-  -- what the program writes of an accepted segment: what each call puts, one after another, is the whole listing
-  pub listing-in-fills : (room : ℕ) → longestLine ≤ room → fills (piecesFrom m RecordCount) m room RecordCount ≡ listing m
-  unfolding textFrom
-  listing-in-fills room h = all-fills (piecesFrom m RecordCount) room RecordCount h (omega arith)

@@ -50,6 +50,13 @@ pieceAt m ExtentCount = piece (countLine (ascii "extents") (extentsListed m)) (E
 pieceAt m (ExtentLine k j) = rowPiece k j (drop k (m .records))
 pieceAt m Done = piece [] Done
 
+abbrev pub isFirst : Place → Bool
+isFirst RecordCount = true
+isFirst (RecordLine k) = false
+isFirst ExtentCount = false
+isFirst (ExtentLine k j) = false
+isFirst Done = false
+
 abbrev pub isDone : Place → Bool
 isDone RecordCount = false
 isDone (RecordLine k) = false
@@ -108,13 +115,3 @@ textFrom m (RecordLine k) = recordLines k (drop k (m .records)) ++ extentPart m
 textFrom m ExtentCount = extentPart m
 textFrom m (ExtentLine k j) = extentsFromRow k j (drop k (m .records))
 textFrom m Done = []
-
--- n pieces from a place on, one after another
-unfoldable pub pieces : ℕ → Meaning → Place → List ℕ
-pieces zero m p = []
-pieces (suc n) m p = pieceAt m p .text ++ pieces n m (pieceAt m p .next)
-
--- what n calls of `fill` put, one after another, each into the same room
-unfoldable pub fills : ℕ → Meaning → ℕ → Place → List ℕ
-fills zero m room p = []
-fills (suc n) m room p = filled m p room .text ++ fills n m room (filled m p room .next)

@@ -1,17 +1,11 @@
-// Lists a segment: reads at most 65,536 bytes from standard input and writes what document 01's section "The listing" says of them. An
+// Lists a segment: reads standard input and writes what `list_input` makes of it, as docs/SERVICES.md, "The listing", says. An
 // input that could not be read to its end is not listed: one line on standard error says why.
-ghost use mathlib.Core.Path.{_≡_};
 ghost use Prim.Native.Nat.{_≤_};
 ghost use lib.ListN.{length};
-ghost use Rattle.answer.specs.declared.Verdict.the-variants.{Accepted};
-ghost use Rattle.segment.specs.Check.{checked};
+ghost use Rattle.listing.specs.Reading.{Within};
 use libc::STDIN_FILENO;
 use libc::STDOUT_FILENO;
 use list_place::Place;
-use list_text::Task;
-
-// The most that is listed. One byte more is read, to notice a longer input.
-const MOST: usize = 65536;
 
 enum Input {
     Read(usize),
@@ -26,7 +20,9 @@ fn read_more(buf: &mut [u8], done: usize) -> isize
 }
 
 // Reads until the input ends or the buffer is full: a short read is not the end.
-fn read_input(buf: &mut [u8]) -> Input {
+fn read_input(buf: &mut [u8]) -> Input
+    ensures { λ r. ⌜ Within (length (now (buf .entry))) r ⌝ }
+{
     let mut done = 0;
     while done < buf.len() {
         let got = read_more(buf, done);
@@ -50,9 +46,8 @@ fn write(text: &[u8]) -> bool {
     false
 }
 
-// The listing of an accepted segment, a buffer at a time.
-fn write_listing(pairs: &[u64], seg: &[u8], out: &mut [u8])
-    requires { ⌜ checked (now pairs) (now seg) ≡ Accepted ⌝ }
+// What is written of an input, a buffer at a time.
+fn list(input: &[u8], out: &mut [u8])
     requires { ⌜ 2169 ≤ length (now out) ⌝ }
 {
     let mut place = Place::RecordCount;
@@ -60,7 +55,7 @@ fn write_listing(pairs: &[u64], seg: &[u8], out: &mut [u8])
         if list_place::is_done(place) {
             return;
         }
-        let stop = list_text::fill(pairs, seg, place, out);
+        let stop = list_input::more(input, place, out);
         let end = stop.end;
         if !write(&out[..end]) {
             return;
@@ -69,29 +64,13 @@ fn write_listing(pairs: &[u64], seg: &[u8], out: &mut [u8])
     }
 }
 
-fn list(seg: &[u8]) {
-    let table = [1u64, 32, 7, 4];
-    let mut line = [0u8; 64];
-    match list_text::start(&table, seg, &mut line) {
-        Task::Refused(end) => {
-            write(&line[..end]);
-        }
-        Task::Listed => {
-            let mut out = [0u8; 16384];
-            write_listing(&table, seg, &mut out);
-        }
-    }
-}
-
 fn main() {
-    let mut buf = [0u8; 65537];
+    let mut buf = [0u8; list_input::ENOUGH];
     match read_input(&mut buf) {
         Input::Read(n) => {
-            if MOST < n {
-                write(b"too long\n");
-            } else {
-                list(&buf[..n]);
-            }
+            // large, since each call for a part makes the whole check
+            let mut out = [0u8; 1048576];
+            list(&buf[..n], &mut out);
         }
         Input::Failed => os::fail(b"standard input"),
     }

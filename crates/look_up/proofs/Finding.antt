@@ -43,7 +43,7 @@ module _ (r : Record) (o : Source) (e : o ≡ sourceOf (r .imported) (r .source)
   found-gone g = rw e (simp tests)
 
   pub found-live : (r .flags ≡ 1 → ⊥)
-      → Present (r .visibility) (r .domain) o (r .«total_length») (r .«extents_offset» .0) (r .«extent_count») ≡ recordFound r
+      → Present (r .visibility) (r .domain) o (r .«total_length») (r .«extents_offset») (r .«extent_count») ≡ recordFound r
   unfolding recordFound
   found-live g = rw e (simp tests)
 
@@ -63,7 +63,7 @@ search-done sh s key k h e v a b =
     sym (ap (λ (m : ℕ). foundOver m (foundNo sh s (headerOf s) key)) n ∙ v .none)
 
 module _ (sh : Shape) (pairs s : List ℕ) (h : Header) (key : Key) (k : ℕ) (e : h ≡ headerOf s) (b : Bool)
-    (t : b ≡ eqList (itemKey (Records (recordsOffset h) sh) s pairs k) (keyOf key)) where
+    (t : b ≡ eqList (itemKey (Records (h .«records_offset») sh) s pairs k) (keyOf key)) where
   -- the item's key is the record's
   tested : b ≡ eqList (keyNo sh s (headerOf s) k) (keyOf key)
   unfolding itemKey itemHash itemDigest itemSpan recordSpan keyNo digestIn recordNo

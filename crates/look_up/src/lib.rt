@@ -34,6 +34,7 @@ fn found(r: Record) -> Found
     ensures { λ f. ⌜ f ≡ recordFound r ⌝ }
 {
     let origin = source(r.imported, r.source);
+    let start = r.extents_offset;
     if r.flags == 1 {
         return Found::Gone {
             visibility: r.visibility,
@@ -46,7 +47,7 @@ fn found(r: Record) -> Found
         domain: r.domain,
         source: origin,
         total: r.total_length,
-        start: r.extents_offset.0,
+        start,
         count: r.extent_count,
     }
 }
@@ -57,7 +58,7 @@ fn find(sh: Shape, seg: &[u8], hash: u64, digest: &[u8]) -> Found
     ensures { λ r. ⌜ r ≡ foundIn sh (now (seg .entry)) (headerOf (now (seg .entry))) (keyFrom hash (now (digest .entry))) ⌝ }
 {
     let h = Header::of(seg);
-    let first = h.records_offset.0 as usize;
+    let first = h.records_offset;
     let count = h.record_count as usize;
     let head = Head { hash_id: hash };
     let mut k = 0;
@@ -70,7 +71,7 @@ fn find(sh: Shape, seg: &[u8], hash: u64, digest: &[u8]) -> Found
             head,
             digest,
         ) {
-            return found(Record::nth(sh, seg, first, k));
+            return found(sh.nth_record(seg, first, k));
         }
         k += 1;
     }

@@ -1,36 +1,36 @@
-// The part of a segment that holds the extents of look up's answer.
+// The part of a segment that holds the extents of the record with a key. The whole check is made in every call, so that no part of a
+// segment is handed back that breaks a rule.
 ghost use mathlib.Core.Path.{_≡_};
-ghost use lib.ListN.{take, drop};
-ghost use Rattle.segment.specs.LookUp.{extentsPart};
+ghost use Prim.Native.Nat.{_+_, _≤_};
+ghost use lib.ListN.{length, take, drop};
+ghost use Rattle.segment.specs.Keys.{keyFrom};
+ghost use Rattle.segment.specs.LookUp.{lookedUp, extentsPart};
 use answer::Found;
+use offset::FileOffset;
 use segment::extent::Extent;
 
-// The bytes from a place on, as many as are asked for or as there are.
-fn part_from(seg: &[u8], start: usize, size: usize) -> &[u8]
-    ensures { λ r. ⌜ now r ≡ take size (drop start (now (seg .entry))) ⌝ }
+// So many bytes from a place on.
+fn cut(seg: &[u8], start: FileOffset, size: usize) -> &[u8]
+    requires { ⌜ start .0 + size ≤ length (now seg) ⌝ }
+    ensures { λ r. ⌜ now r ≡ take size (drop (start .0) (now (seg .entry))) ⌝ }
 {
-    if seg.len() < start {
-        let end = seg.len();
-        return &seg[end..];
-    }
-    if seg.len() - start < size {
-        return &seg[start..];
-    }
-    let end = start + size;
-    &seg[start..end]
+    let from = start.0 as usize;
+    let end = from + size;
+    &seg[from..end]
 }
 
-// The part of the lent segment that holds the extents of an answer: none, unless a record is present.
-pub fn extents_of(seg: &[u8], answer: Found) -> &[u8]
-    ensures { λ r. ⌜ now r ≡ extentsPart answer (now (seg .entry)) ⌝ }
+// The extents of the record that look up finds present: none, where it answers anything else.
+pub fn extents_of<'a>(pairs: &[u64], seg: &'a [u8], hash: u64, digest: &[u8]) -> &'a [u8]
+    ensures { λ r. ⌜ now r ≡
+        extentsPart (lookedUp (now (pairs .entry)) (now (seg .entry)) (keyFrom hash (now (digest .entry)))) (now (seg .entry)) ⌝ }
 {
-    match answer {
-        Found::Absent => part_from(seg, 0, 0),
+    match look_up::look_up(pairs, seg, hash, digest) {
+        Found::Absent => cut(seg, FileOffset(0), 0),
         Found::Gone {
             visibility,
             domain,
             source,
-        } => part_from(seg, 0, 0),
+        } => cut(seg, FileOffset(0), 0),
         Found::Present {
             visibility,
             domain,
@@ -38,7 +38,7 @@ pub fn extents_of(seg: &[u8], answer: Found) -> &[u8]
             total,
             start,
             count,
-        } => { part_from(seg, start as usize, Extent::SIZE * (count as usize)) }
-        Found::Refused(r) => part_from(seg, 0, 0),
+        } => cut(seg, start, Extent::SIZE * (count as usize)),
+        Found::Refused(r) => cut(seg, FileOffset(0), 0),
     }
 }

@@ -1,4 +1,4 @@
-// The four structures put into bytes, field after field as document 01 lists them: the other half of their readers. A structure of
+// The four structures put into bytes, field after field as docs/FORMAT.md lists them: the other half of their readers. A structure of
 // many fields is put group by group. Each function is told that the structure fits where it is put.
 ghost use mathlib.Core.Path.{_≡_};
 ghost use Prim.Native.Nat.{_+_, _≤_};
@@ -24,6 +24,7 @@ use field_frame::footer;
 use field_frame::header;
 use field_record::extent;
 use field_record::record;
+use offset::FileOffset;
 use segment::extent::Extent;
 use segment::footer::Footer;
 use segment::header::Header;
@@ -186,11 +187,13 @@ pub fn put_extent(e: Extent, at: usize, out: &mut [u8])
     numbers::put_u32(out, at + extent::LENGTH, e.length);
 }
 
-pub fn put_footer(f: Footer, at: usize, out: &mut [u8])
-    requires { ⌜ at + footerSize ≤ length (now out) ⌝ }
-    ensures { λ _. ⌜ now (out .exit) ≡ put (now (out .entry)) at (packed (footerFields f)) ⌝ }
+// The output is the whole file here, and no stretch of it.
+pub fn put_footer(f: Footer, at: FileOffset, out: &mut [u8])
+    requires { ⌜ at .0 + footerSize ≤ length (now out) ⌝ }
+    ensures { λ _. ⌜ now (out .exit) ≡ put (now (out .entry)) (at .0) (packed (footerFields f)) ⌝ }
 {
-    numbers::put_u64(out, at, f.checksum);
-    numbers::put_u64(out, at + footer::SEAL_SNAPSHOT, f.seal_snapshot);
-    numbers::put_u64(out, at + footer::SEAL_TIME, f.seal_time);
+    let from = at.0 as usize;
+    numbers::put_u64(out, from, f.checksum);
+    numbers::put_u64(out, from + footer::SEAL_SNAPSHOT, f.seal_snapshot);
+    numbers::put_u64(out, from + footer::SEAL_TIME, f.seal_time);
 }

@@ -3,7 +3,7 @@
 --   headerFor         the header of a segment with so many bloom bytes and records, whose digests and extents have these sizes
 --   Plan              a header of rows' form, which has so many bytes of digests, and is a file of so many bytes
 --   sectionsUnder, bodyUnder   the three sections of rows, and everything before the footer, under such a header
---   Left, Emitted       what write and tidy answer and leave of a form and an output
+--   EmittedAfter, Emitted   what write and tidy answer and leave of a form and an output
 -- Assumes nothing: these are definitions.
 use Prim.Native.Nat.{ℕ, _+_, _≤_}
 use mathlib.Core.Path.{_≡_}
@@ -61,10 +61,10 @@ unfoldable pub bodyUnder : Shape → Header → List ℕ → List Row → List �
 bodyUnder sh h bloom rows = packed (headerFields h) ++ (bloom ++ sectionsUnder sh h rows)
 
 -- what is left where a verdict comes before the size: the first refusal and the output as it was, or the form and the bytes that stood after it
-pub record Left (v : Verdict) (form out after : List ℕ) (w : Written) : Type 0 where
+pub record EmittedAfter (v : Verdict) (form out after : List ℕ) (w : Written) : Type 0 where
   pub answer : w ≡ settled v form (length out)
   pub output : after ≡ outputAfter w form out
 
 -- and where nothing before the size is refused
 abbrev pub Emitted : List ℕ → List ℕ → List ℕ → Written → Type 0
-Emitted form out after w = Left Accepted form out after w
+Emitted form out after w = EmittedAfter Accepted form out after w

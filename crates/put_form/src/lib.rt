@@ -12,8 +12,8 @@ ghost use Rattle.put_form.specs.Emit.{Moderate, headerFor, Plan, section
 use answer::Refusal;
 use answer::Rule;
 use answer::Written;
-use field_record::FileOffset;
 use key::Kind;
+use offset::FileOffset;
 use put_item::Sizes;
 use segment::extent::Extent;
 use segment::footer::Footer;
@@ -41,7 +41,7 @@ fn header_for(sh: Shape, t: Heading, bloom: u64, count: u64, s: Sizes) -> Header
         snapshot_max: t.snapshot_max,
         record_count: count,
         records_offset: FileOffset(records),
-        bloom_offset: FileOffset(place),
+        bloom_offset: place,
         bloom_size: bloom,
         digests_offset: FileOffset(digests),
         digests_size: size,
@@ -136,7 +136,7 @@ fn put_form(
         seal_snapshot: t.seal_snapshot,
         seal_time: t.seal_time,
     };
-    put_fields::put_footer(f, body, out);
+    put_fields::put_footer(f, FileOffset(body as u64), out);
 }
 
 // The form of the items in the order of their numbers, if it keeps to the limit and fits; else the output is left alone.

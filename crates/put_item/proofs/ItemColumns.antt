@@ -9,6 +9,7 @@ use Rattle.numbers.proofs.NumberLaws.{bytesOf-mod}
 use Rattle.segment.specs.declared.record.Record.{Record}
 use Rattle.segment.specs.declared.extent.Extent.{Extent}
 use Rattle.segment.specs.declared.entry.Entry.{Entry}
+use Rattle.offset.specs.declared.FileOffset.{FileOffset}
 use Rattle.segment.specs.declared.shape.Shape.{Shape}
 use Rattle.segment.specs.Format.{inBlock, recordFrom, totalIn, recordOf, extentOf}
 use Rattle.segment.specs.Check.{sumLengths}
@@ -22,7 +23,7 @@ use Rattle.put_item.specs.Lines.{recordEntry, itemEntry, itemExtent, Hel
 -- ---- an item's numbers
 
 module _ (kind : Kind) (bytes list : List ℕ) (k : ℕ) where
-  pub record-entry : (first : ℕ) (sh : Shape) (r : Record) (e : Entry) → kind ≡ Records first sh → r ≡ recordOf sh bytes (recordFrom sh first k)
+  pub record-entry : (first : FileOffset) (sh : Shape) (r : Record) (e : Entry) → kind ≡ Records first sh → r ≡ recordOf sh bytes (recordFrom sh (first .0) k)
       → e ≡ recordEntry r → e ≡ itemEntry kind bytes list k
   unfolding itemEntry
   record-entry first sh r e q h i = rw (q, i, h)
@@ -41,7 +42,7 @@ unfolding packed extentFields listedExtent
 cut-extent xs j = rw (bytesOf-mod 4 (getD xs (3 * j + 1) 0), bytesOf-mod 4 (getD xs (3 * j + 2) 0))
 
 module _ (kind : Kind) (bytes extents : List ℕ) (first : ℕ) where
-  pub record-held : (from : ℕ) (sh : Shape) (n : ℕ) → kind ≡ Records from sh → Held kind bytes extents first n → first + 16 * n ≤ length bytes
+  pub record-held : (from : FileOffset) (sh : Shape) (n : ℕ) → kind ≡ Records from sh → Held kind bytes extents first n → first + 16 * n ≤ length bytes
   unfolding Held
   record-held from sh n e h = subst (λ (q : Kind). Held q bytes extents first n) e h
 
@@ -49,7 +50,7 @@ module _ (kind : Kind) (bytes extents : List ℕ) (first : ℕ) where
   unfolding Held
   entry-held n e h = subst (λ (q : Kind). Held q bytes extents first n) e h
 
-  pub record-extent : (j from : ℕ) (sh : Shape) (r : Extent) → kind ≡ Records from sh → r ≡ extentOf bytes (first + 16 * j)
+  pub record-extent : (j : ℕ) (from : FileOffset) (sh : Shape) (r : Extent) → kind ≡ Records from sh → r ≡ extentOf bytes (first + 16 * j)
       → packed (extentFields r) ≡ packed (extentFields (itemExtent kind bytes extents first j))
   unfolding itemExtent
   record-extent j from sh r e h = rw (e, h)
@@ -90,7 +91,7 @@ module _ (xs : List ℕ) (first count j sum : ℕ) (a : Adding xs first count j 
       sym (a .same ∙ rw e (omega arith))
 
 module _ (kind : Kind) (bytes list extents : List ℕ) (k : ℕ) where
-  pub record-total : (first : ℕ) (sh : Shape) (at r : ℕ) → kind ≡ Records first sh → at ≡ recordFrom sh first k → r ≡ totalIn (sh .«total_wide») bytes at
+  pub record-total : (first : FileOffset) (sh : Shape) (at r : ℕ) → kind ≡ Records first sh → at ≡ recordFrom sh (first .0) k → r ≡ totalIn (sh .«total_wide») bytes at
       → r ≡ itemTotal kind bytes list extents k
   unfolding itemTotal recordOf
   record-total first sh at r e b h = rw (e, h, b)

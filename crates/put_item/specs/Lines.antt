@@ -41,7 +41,7 @@ recordEntry r = record {
 }
 
 unfoldable pub itemEntry : Kind → List ℕ → List ℕ → ℕ → Entry
-itemEntry (Records from sh) bytes list k = recordEntry (recordOf sh bytes (recordFrom sh from k))
+itemEntry (Records from sh) bytes list k = recordEntry (recordOf sh bytes (recordFrom sh (from .0) k))
 itemEntry Entries bytes list k = entryNo list k
 
 -- the j-th extent from the first on, and n of them
@@ -60,7 +60,7 @@ Held Entries bytes extents first n = listedSize * (first + n) ≤ length extents
 
 -- a record carries its total; an entry's is the sum of its extents
 unfoldable pub itemTotal : Kind → List ℕ → List ℕ → List ℕ → ℕ → ℕ
-itemTotal (Records from sh) bytes list extents k = recordOf sh bytes (recordFrom sh from k) .«total_length»
+itemTotal (Records from sh) bytes list extents k = recordOf sh bytes (recordFrom sh (from .0) k) .«total_length»
 itemTotal Entries bytes list extents k =
     sumLengths (extentsFrom extents (entryNo list k .«first_extent») (entryNo list k .«extent_count»))
 

@@ -12,10 +12,10 @@ ghost use Rattle.segment.specs.Write.{listedExtent, extentsFrom};
 ghost use Rattle.key.specs.Items.{Item};
 ghost use Rattle.lists.specs.Lists.{Each};
 ghost use Rattle.put_item.specs.Lines.{recordEntry, itemEntry, itemExtent, Held, itemTotal, Narrow, Counted, Line, recordOfEntry, measured};
-use field_record::BlockOffset;
-use field_record::FileOffset;
 use field_record::record as fields;
 use key::Kind;
+use offset::BlockOffset;
+use offset::FileOffset;
 use segment::entry::Entry;
 use segment::extent::Extent;
 use segment::record;
@@ -51,7 +51,7 @@ pub fn entry_of(kind: Kind, bytes: &[u8], list: &[u64], k: usize) -> Entry
     ensures { λ r. ⌜ r ≡ itemEntry kind (now (bytes .entry)) (now (list .entry)) k ⌝ }
 {
     match kind {
-        Kind::Records(first, sh) => entry_of_record(Record::nth(sh, bytes, first, k)),
+        Kind::Records(first, sh) => entry_of_record(sh.nth_record(bytes, first, k)),
         Kind::Entries => Entry::at(list, k),
     }
 }
@@ -78,7 +78,7 @@ pub fn extent_of(kind: Kind, bytes: &[u8], extents: &[u64], first: usize, j: usi
     ensures { λ r. ⌜ packed (extentFields r) ≡ packed (extentFields (itemExtent kind (now (bytes .entry)) (now (extents .entry)) first j)) ⌝ }
 {
     match kind {
-        Kind::Records(_, _) => Extent::at(bytes, first + Extent::SIZE * j),
+        Kind::Records(_, _) => Extent::at(bytes, FileOffset((first + Extent::SIZE * j) as u64)),
         Kind::Entries => listed_extent(extents, first + j),
     }
 }
@@ -115,27 +115,33 @@ pub fn total_of(kind: Kind, bytes: &[u8], list: &[u64], extents: &[u64], k: usiz
 }
 
 // Where a record says that its extents lie: nowhere, if it is gone.
-fn extents_place(e: Entry, at: u64) -> u64
-    ensures { λ r. ⌜ r ≡ cond (eqb (e .gone) 1) 0 at ⌝ }
+fn extents_place(e: Entry, at: FileOffset) -> FileOffset
+    ensures { λ r. ⌜ r .0 ≡ cond (eqb (e .gone) 1) 0 (at .0) ⌝ }
 {
     if e.gone == 1 {
-        return 0;
+        return FileOffset(0);
     }
     at
 }
 
 // The record of an entry, with its total, its domain and its two places.
-pub fn record_for(e: Entry, total: u64, domain: u32, digest_at: u64, extents_at: u64) -> Record
+pub fn record_for(
+    e: Entry,
+    total: u64,
+    domain: u32,
+    digest_at: FileOffset,
+    extents_at: FileOffset,
+) -> Record
     requires { ⌜ Narrow e ⌝ }
-    ensures { λ r. ⌜ r ≡ recordOfEntry e total domain «digest_at» «extents_at» ⌝ }
+    ensures { λ r. ⌜ r ≡ recordOfEntry e total domain («digest_at» .0) («extents_at» .0) ⌝ }
 {
     let place = extents_place(e, extents_at);
     Record {
         hash_id: e.hash_id as u32,
         digest_length: e.digest_length as u16,
         reserved: 0,
-        digest_offset: FileOffset(digest_at),
-        extents_offset: FileOffset(place),
+        digest_offset: digest_at,
+        extents_offset: place,
         extent_count: e.extent_count as u32,
         total_length: total,
         domain,

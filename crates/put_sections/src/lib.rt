@@ -12,6 +12,7 @@ ghost use Rattle.lists.specs.Lists.{Each};
 ghost use Rattle.put_item.specs.Lines.{Held, itemExtents, itemRows, Lines};
 ghost use Rattle.put_sections.specs.Sections.{Near, itemDigests, itemSection};
 use key::Kind;
+use offset::FileOffset;
 use segment::extent::Extent;
 use segment::header::Header;
 use segment::shape::Shape;
@@ -64,7 +65,13 @@ pub fn put_records(
         let i = numbers[k] as usize;
         let e = put_item::entry_of(kind, bytes, list, i);
         let total = put_item::total_of(kind, bytes, list, extents, i);
-        let r = put_item::record_for(e, total, h.domain, digest_at, extents_at);
+        let r = put_item::record_for(
+            e,
+            total,
+            h.domain,
+            FileOffset(digest_at),
+            FileOffset(extents_at),
+        );
         put_fields::put_record(sh, r, sh.record_size * k, out);
         digest_at += e.digest_length;
         extents_at += Extent::LONG * e.extent_count;

@@ -1,2 +1,2 @@
 pub mod SortedItems
-pub mod Left
+pub mod EmittedAfter

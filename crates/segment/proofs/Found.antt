@@ -9,6 +9,7 @@ use mathlib.Core.List.{List}
 use native.Mathlib.Nat.{not-suc-le-zero, eq-or-lt-of-le, le-of-suc-le-suc}
 use native.Mathlib.Numerals.{add-one}
 use native.Mathlib.Omega.{arith}
+use Rattle.offset.specs.declared.FileOffset.{FileOffset}
 use Rattle.answer.specs.declared.Refusal.{Refusal}
 use Rattle.answer.specs.declared.Source.{Source}
 use Rattle.answer.specs.declared.Found.{Found}
@@ -30,7 +31,7 @@ never-absent r = go (isGone r)
   where
     go : (b : Bool)
         → cond b (Gone (r .visibility) (r .domain) (sourceOf (r .imported) (r .source)))
-        (Present (r .visibility) (r .domain) (sourceOf (r .imported) (r .source)) (r .«total_length») (r .«extents_offset» .0) (r .«extent_count»))
+        (Present (r .visibility) (r .domain) (sourceOf (r .imported) (r .source)) (r .«total_length») (r .«extents_offset») (r .«extent_count»))
         ≡ Absent → ⊥
     go true e = let z : _≡_ {A = ℕ} 0 1 = cc in omega arith
     go false e = let z : _≡_ {A = ℕ} 0 1 = cc in omega arith
@@ -70,7 +71,7 @@ found-first (suc n) k f h p q =
 pub data Told : Found → Type 0 where
   absent : Told Absent
   gone : (v d : ℕ) (o : Source) → Told (Gone v d o)
-  present : (v d : ℕ) (o : Source) (t a n : ℕ) → Told (Present v d o t a n)
+  present : (v d : ℕ) (o : Source) (t : ℕ) (a : FileOffset) (n : ℕ) → Told (Present v d o t a n)
 
 told-else : {f g : Found} → Told f → Told g → Told (f orElse g)
 told-else absent t = t

@@ -1,4 +1,4 @@
--- Document 01's rules of what write is lent, as a rule book: what an entry meets, a field for each rule, gathered by the refusal that is given where
+-- The rules of docs/SERVICES.md, "Write", as a rule book: what an entry meets, a field for each rule, gathered by the refusal that is given where
 -- one of them is broken; and the whole request.
 -- Assumes nothing: these are definitions.
 use Prim.Native.Nat.{ℕ, _+_, _%_, _≤_, _<_}

@@ -1,7 +1,7 @@
--- Document 01's rules in the order in which check tries them: 14, 1 to 6, then the records by number and within one 7 to 10,
+-- The rules of docs/FORMAT.md in the order in which check tries them: 14, 1 to 6, then the records by number and within one 7 to 10,
 -- then 11, 12. The first that is broken is the answer. Sums and products are over whole numbers.
 --   checked     what check answers of a table and a list of bytes
---   checkOf     the same in document 01's numbers
+--   checkOf     the same in numbers
 -- Assumes nothing: these are definitions.
 use Prim.Native.Nat.{ℕ, zero, suc, _+_, _-_, _*_, _%_, max}
 use mathlib.Core.Bool.{Bool, true, cond, _&&_, _||_}

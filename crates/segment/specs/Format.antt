@@ -1,4 +1,4 @@
--- Document 01, "The file": sizes, limits, and where each field of the four structures stands. All numbers are little-endian,
+-- docs/FORMAT.md: sizes, limits, and where each field of the four structures stands. All numbers are little-endian,
 -- unsigned and packed.
 --   Shape       what differs between versions: magic, version, a record's size, whether its total is wide, and the total's limit
 --   headerOf, recordOf, extentOf, footerOf    the fields of each structure, read from a list of bytes
@@ -10,8 +10,8 @@ use mathlib.Core.List.{List, [], _∷_}
 use lib.ListN.{length}
 use Rattle.numbers.specs.Numbers.{numAt}
 pub use Rattle.field_record.specs.Sizes.{headerSize, leastRecord, recordBytes, extentSize, footerSize, totalIn}
-use Rattle.field_record.specs.declared.FileOffset.{FileOffset}
-use Rattle.field_record.specs.declared.BlockOffset.{BlockOffset}
+use Rattle.offset.specs.declared.FileOffset.{FileOffset}
+use Rattle.offset.specs.declared.BlockOffset.{BlockOffset}
 use Rattle.segment.specs.declared.shape.Shape.{Shape}
 use Rattle.segment.specs.declared.header.Header.{Header}
 use Rattle.segment.specs.declared.record.Record.{Record}

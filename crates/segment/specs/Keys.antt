@@ -1,4 +1,4 @@
--- Document 01: no two records have the same key, hash id and digest bytes; tidy order is by hash id, then by digest bytes
+-- docs/FORMAT.md, "A record": no two records have the same key, hash id and digest bytes; tidy order is by hash id, then by digest bytes
 -- compared as unsigned bytes from the first.
 --   Key           what a record is looked up by
 --   keyOf         a key as one list of numbers, in the order in which keys are compared

@@ -1,4 +1,4 @@
--- Document 01, "The listing": its two counts are sums over the meaning.
+-- docs/SERVICES.md, "The listing": its two counts are sums over the meaning.
 -- Assumes nothing: these are definitions.
 use Prim.Native.Nat.{ℕ}
 use lib.ListN.{length}

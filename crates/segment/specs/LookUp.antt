@@ -1,8 +1,8 @@
--- Document 01, look up: 14, then 17, then as check; on an accepted segment absent; gone, with visibility, domain and source; or present,
+-- docs/SERVICES.md, "Look up": 14, then 17, then as check; on an accepted segment absent; gone, with visibility, domain and source; or present,
 -- with these, the total length and the part of the lent segment that holds its extents.
 --   foundOver     the first of 0, 1, .. below n that is not absent
 --   lookedUp      what look up answers
---   lookUpOf      the same in document 01's numbers
+--   lookUpOf      the same in numbers
 --   extentsPart   the part of the segment that an answer speaks of
 -- Assumes nothing: these are definitions.
 use Prim.Native.Nat.{ℕ, zero, suc, _*_}
@@ -34,7 +34,7 @@ unfoldable pub recordFound : Record → Found
 recordFound r =
     cond (isGone r)
     (Gone (r .visibility) (r .domain) (sourceOf (r .imported) (r .source)))
-    (Present (r .visibility) (r .domain) (sourceOf (r .imported) (r .source)) (r .«total_length») (r .«extents_offset» .0) (r .«extent_count»))
+    (Present (r .visibility) (r .domain) (sourceOf (r .imported) (r .source)) (r .«total_length») (r .«extents_offset») (r .«extent_count»))
 
 infixr 40 _orElse_
 abbrev pub _orElse_ : Found → Found → Found
@@ -67,5 +67,5 @@ lookUpOf pairs s key = foundAnswer (lookedUp pairs s key)
 unfoldable pub extentsPart : Found → List ℕ → List ℕ
 extentsPart Absent s = []
 extentsPart (Gone v d src) s = []
-extentsPart (Present v d src t at n) s = take (extentSize * n) (drop at s)
+extentsPart (Present v d src t at n) s = take (extentSize * n) (drop (at .0) s)
 extentsPart (Refused r) s = []

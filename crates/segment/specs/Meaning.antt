@@ -1,4 +1,4 @@
--- Document 01, "Meaning": shard, both snapshots, domain, bloom bytes, both seal numbers, and the set of the records, each with key,
+-- docs/FORMAT.md, "Meaning and tidy form": shard, both snapshots, domain, bloom bytes, both seal numbers, and the set of the records, each with key,
 -- visibility, source or none, and either gone or its extents in order. Two segments mean the same when all of these are equal.
 --   Row, Meaning    a record's meaning, and a segment's; its records are listed, and count as a set
 --   meaningOf       the meaning of an accepted segment

@@ -1,4 +1,4 @@
--- Document 01's rules as a rule book: what a segment meets under a table, a field for each rule, gathered by the refusal that is given where one
+-- The rules of docs/FORMAT.md as a rule book: what a segment meets under a table, a field for each rule, gathered by the refusal that is given where one
 -- of them is broken. Under a good table it says the same as the table of rules in Check, and in no order.
 -- Assumes nothing: these are definitions.
 use Prim.Native.Nat.{ℕ, _+_, _-_, _*_, _%_, _≤_, _<_}

@@ -1,4 +1,4 @@
--- Document 01, "tidy form": records ascend by key; digests are packed in record order, then zeros up to a multiple of 8; extents
+-- docs/FORMAT.md, "Meaning and tidy form": records ascend by key; digests are packed in record order, then zeros up to a multiple of 8; extents
 -- are packed in record order with none shared or unused. It is a function on the meaning, section by section.
 --   Field, packed     a number and its width in bytes; the bytes of a list of them
 --   formOf            the segment of rows in the order in which they stand
@@ -208,9 +208,13 @@ tidyForm sh m = formOf sh (m .heading) (m .bloom) (sortBy rowLeq (m .records))
 
 -- ---- what tidy answers
 
--- 16: the result passes the limit; 13: the output is shorter than the result
+-- 16: the result passes the limit
+abbrev pub limitVerdict : ℕ → Verdict
+limitVerdict n = must (leb n fileLimit) (refusal Large 0)
+
+-- and 13: the output is shorter than the result
 unfoldable pub roomVerdict : ℕ → ℕ → Verdict
-roomVerdict n room = must (leb n fileLimit) (refusal Large 0) then must (leb n room) (refusal Room 0)
+roomVerdict n room = limitVerdict n then must (leb n room) (refusal Room 0)
 
 -- what stands in the output afterwards: the result and the bytes that stood after it, or what stood there before
 abbrev pub outputAfter : Written → List ℕ → List ℕ → List ℕ
@@ -236,7 +240,7 @@ tidied pairs s room = settled (checked pairs s) (tidyForm v3 (meaningOf v3 s)) r
 unfoldable pub tidySized : List ℕ → List ℕ → Written
 tidySized pairs s =
     let n = length (tidyForm v3 (meaningOf v3 s)) in
-    after Refused (checked pairs s then must (leb n fileLimit) (refusal Large 0)) (Done n)
+    after Refused (checked pairs s then limitVerdict n) (Done n)
 
 unfoldable pub tidyLengthOf : List ℕ → List ℕ → Answer
 tidyLengthOf pairs s = writtenAnswer (tidySized pairs s)

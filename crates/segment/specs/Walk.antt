@@ -1,8 +1,8 @@
--- Document 01, the walk: each step is lent the table, refuses as check does, and otherwise gives every field of the record at its
+-- docs/SERVICES.md, "The walk": each step is lent the table, refuses as check does, and otherwise gives every field of the record at its
 -- place and moves on by one; a refused step stays, and past the last record it says done and stays.
 --   stepped       what a step at a place answers
 --   nextPlace     where the walk then is
---   stepOf        the same in document 01's numbers
+--   stepOf        the same in numbers
 -- Assumes nothing: these are definitions.
 use Prim.Native.Nat.{ℕ, suc}
 use mathlib.Core.Bool.{cond}
@@ -26,7 +26,7 @@ nextPlace (Row r) k = suc k
 nextPlace Done k = k
 nextPlace (Refused r) k = k
 
--- the fields of a record, in document 01's order
+-- the fields of a record, in the order of the file
 abbrev pub recordValues : Record → List ℕ
 recordValues r =
     r .«hash_id» ∷ r .«digest_length» ∷ r .reserved ∷ r .«digest_offset» .0 ∷ r .«extents_offset» .0 ∷ r .«extent_count»

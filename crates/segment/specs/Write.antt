@@ -1,11 +1,11 @@
--- Document 01, write: the meaning's header numbers, bloom bytes, entries, a run of digest bytes and a list of extents. Order: 14,
+-- docs/SERVICES.md, "Write": the meaning's header numbers, bloom bytes, entries, a run of digest bytes and a list of extents. Order: 14,
 -- 16 for the entry count, 5, then entries by number and within one 7, 15, 8, 9, 10; then 12, 16 for size, 13. A flat list's unfinished
 -- last item is not read. A lent number too wide for its field gives 7 in visibility, marks or source, 8 in hash id or digest length,
 -- 9 in extent count, 10 in an extent.
 --   Request           what write is lent besides the table and the output
 --   entryNo           the k-th entry of a flat list, nine numbers to an entry
 --   wrote             what write answers
---   writeOf           the same in document 01's numbers, and what it leaves in the output
+--   writeOf           the same in numbers, and what it leaves in the output
 -- Assumes nothing: these are definitions.
 use Prim.Native.Nat.{ℕ, zero, suc, _+_, _*_, _/_, _%_}
 use mathlib.Core.Bool.{Bool, true, cond, _&&_, _||_}

@@ -3,7 +3,8 @@ ghost use mathlib.Core.Path.{_≡_};
 ghost use Prim.Native.Nat.{_+_, _≤_};
 ghost use lib.ListN.{length};
 ghost use Rattle.segment.specs.Format.{extentSize, extentOf};
-use field_record::BlockOffset;
+use offset::BlockOffset;
+use offset::FileOffset;
 
 pub struct Extent {
     pub block: u64,
@@ -21,9 +22,9 @@ impl Extent {
     pub const LONG: u64 = Extent::SIZE as u64;
 
     // The extent that begins at a place.
-    pub fn at(seg: &[u8], at: usize) -> Self
-        requires { ⌜ at + extentSize ≤ length (now seg) ⌝ }
-        ensures { λ r. ⌜ r ≡ extentOf (now (seg .entry)) at ⌝ }
+    pub fn at(seg: &[u8], at: FileOffset) -> Self
+        requires { ⌜ at .0 + extentSize ≤ length (now seg) ⌝ }
+        ensures { λ r. ⌜ r ≡ extentOf (now (seg .entry)) (at .0) ⌝ }
     {
         Self {
             block: field_record::extent::block(seg, at),

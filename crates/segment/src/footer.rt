@@ -3,6 +3,7 @@ ghost use mathlib.Core.Path.{_≡_};
 ghost use Prim.Native.Nat.{_+_, _≤_};
 ghost use lib.ListN.{length};
 ghost use Rattle.segment.specs.Format.{footerSize, footerOf};
+use offset::FileOffset;
 
 pub struct Footer {
     pub checksum: u64,
@@ -17,9 +18,9 @@ impl Footer {
     pub const LONG: u64 = Footer::SIZE as u64;
 
     // The footer that begins at a place.
-    pub fn at(seg: &[u8], at: usize) -> Self
-        requires { ⌜ at + footerSize ≤ length (now seg) ⌝ }
-        ensures { λ r. ⌜ r ≡ footerOf (now (seg .entry)) at ⌝ }
+    pub fn at(seg: &[u8], at: FileOffset) -> Self
+        requires { ⌜ at .0 + footerSize ≤ length (now seg) ⌝ }
+        ensures { λ r. ⌜ r ≡ footerOf (now (seg .entry)) (at .0) ⌝ }
     {
         Self {
             checksum: field_frame::footer::checksum(seg, at),

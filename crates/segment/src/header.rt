@@ -1,10 +1,10 @@
-// The header, field by field as document 01 lists it.
+// The header, field by field as docs/FORMAT.md, "The header", lists it.
 ghost use mathlib.Core.Path.{_≡_};
 ghost use Prim.Native.Nat.{_≤_};
 ghost use lib.ListN.{length};
 ghost use Rattle.segment.specs.Format.{headerSize, headerOf};
 ghost use Rattle.segment.specs.Check.{bloomPlace};
-use field_record::FileOffset;
+use offset::FileOffset;
 
 pub struct Header {
     pub magic: u64,
@@ -76,11 +76,11 @@ impl Header {
 }
 
 // Where the bloom bytes begin: nowhere, if there are none.
-pub fn bloom_place(size: u64) -> u64
-    ensures { λ r. ⌜ r ≡ bloomPlace size ⌝ }
+pub fn bloom_place(size: u64) -> FileOffset
+    ensures { λ r. ⌜ r .0 ≡ bloomPlace size ⌝ }
 {
     if size == 0 {
-        return 0;
+        return FileOffset(0);
     }
-    Header::LONG
+    FileOffset(Header::LONG)
 }

@@ -1,4 +1,4 @@
-// The parts of a segment as document 01 lays them out: the four kinds with their sizes and constructors, the shape of a
+// The parts of a segment as docs/FORMAT.md lays them out: the four kinds with their sizes and constructors, the shape of a
 // version, an entry of write, and a step of the walk. What the fields and the services mean is written in specs/.
 ghost use mathlib.Core.Path.{_≡_};
 ghost use Prim.Native.Nat.{_+_, _≤_};

@@ -1,4 +1,4 @@
--- Document 01, the store's table: a list of 1 to 16 pairs, hash id and digest length. Lengths are 1 to 1,024 and no hash id
+-- docs/SERVICES.md, "The store's table": a list of 1 to 16 pairs, hash id and digest length. Lengths are 1 to 1,024 and no hash id
 -- stands twice. It is lent as a flat list of numbers, two to a pair.
 --   goodTable   the list is such a table
 --   allows      does it allow this hash id with this length

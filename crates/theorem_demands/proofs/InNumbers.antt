@@ -1,4 +1,4 @@
--- A service's refusal in document 01's numbers is the refusal itself, since the numbers settle the answer: when one is given, the other is. Said once, of any
+-- A service's refusal in numbers is the refusal itself, since the numbers settle the answer: when one is given, the other is. Said once, of any
 -- service.
 -- Assumes nothing.
 use mathlib.Core.Path.{_≡_, sym, ap, _∙_}

@@ -1,5 +1,3 @@
-pub mod Files
-pub mod PCases
 pub mod Rulebook
 pub mod InNumbers
 pub mod Stops
@@ -11,5 +9,3 @@ pub mod Requests
 pub mod Writing
 pub mod Flat
 pub mod Asking
-pub mod Answering
-pub mod Demands

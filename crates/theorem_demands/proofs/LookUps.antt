@@ -7,7 +7,7 @@ use mathlib.Core.Logic.{_↔_}
 use mathlib.Core.List.{List}
 use native.Mathlib.Omega.{arith}
 use borrow.Author.Tests.{ne-eqb}
-use lib.ListN.{length, take, drop}
+use lib.ListN.{take, drop}
 use Rattle.answer.specs.declared.Refusal.{Refusal}
 use Rattle.answer.specs.declared.Rule.the-variants.{Table, Key as KeyWrong}
 use Rattle.answer.specs.declared.Verdict.{Verdict}
@@ -27,7 +27,7 @@ use Rattle.segment.specs.Check.{keyNo, segmentVerdict, checked, checkOf}
 use Rattle.segment.specs.LookUp.{keyVerdict, recordFound, foundOver, foundNo, foundIn, foundUnder, lookedUp, lookUpOf, extentsPart}
 use Rattle.lists.proofs.Equal.{eqList-iff, unequal}
 use Rattle.segment.proofs.Found.{never-absent, never-refused, found-all, found-first}
-use Rattle.theorem_demands.specs.PCases.{accepted}
+use Rattle.theorem_demands.specs.Answered.{accepted}
 use Rattle.theorem_demands.specs.LookUps.{HasKey, Finds, LookGiven, by-table, by-key, by-segment}
 use Rattle.theorem_demands.specs.Refusals.{Given}
 use Rattle.check_book.proofs.Book.{under-table}
@@ -142,7 +142,7 @@ module _ (pairs s : List ℕ) (key : Key) where
   unfolding looks
   look-refused-iff r = (given r, refuses r)
 
-  -- in document 01's numbers
+  -- in numbers
   pub look-refused-numbers : (r : Refusal) → lookUpOf pairs s key ≡ refused r ↔ LookGiven pairs s key r
   unfolding lookUpOf
   look-refused-numbers = in-numbers foundAnswer NotFound found-settled (λ r. refl) (lookedUp pairs s key) look-refused-iff

@@ -150,7 +150,7 @@ module _ (pairs s : List ℕ) where
 pub refused-iff : (pairs s : List ℕ) (r : Refusal) → (checked pairs s ≡ Refused r) ↔ Given pairs s r
 refused-iff pairs s r = (λ e. settled pairs s r e (judged pairs s), given-refused pairs s r)
 
--- in document 01's numbers
+-- in numbers
 pub refused-numbers : (pairs s : List ℕ) (r : Refusal) → (checkOf pairs s ≡ refused r) ↔ Given pairs s r
 unfolding checkOf
 refused-numbers pairs s = in-numbers checkAnswer Refused check-settled (λ r. refl) (checked pairs s) (refused-iff pairs s)

@@ -1,4 +1,4 @@
--- Check accepts exactly the segments that meet document 01's rules: the rules in order, of which the first that is broken is the answer, and the rule
+-- Check accepts exactly the segments that meet the rules of docs/FORMAT.md: the rules in order, of which the first that is broken is the answer, and the rule
 -- book, which has no order, say the same.
 -- Assumes nothing.
 use Prim.Native.Nat.{ℕ}
@@ -16,11 +16,11 @@ use Rattle.segment.proofs.Shapes.{v3-shaped}
 use Rattle.table.specs.Table.{goodTable}
 use Rattle.segment.specs.Check.{checked, checkOf}
 use Rattle.segment.specs.Meets.{Meets}
-use Rattle.theorem_demands.specs.PCases.{accepted}
+use Rattle.theorem_demands.specs.Answered.{accepted}
 use Rattle.check_book.proofs.Book.{segment-book, checked-iff}
 use Rattle.check_book.proofs.TablesHeader.{table-book}
 
--- check's answer in document 01's numbers and its verdict
+-- check's answer in numbers and its verdict
 pub answer-is : (pairs s : List ℕ) (v : Verdict) → checkOf pairs s ≡ checkAnswer v ↔ checked pairs s ≡ v
 unfolding checkOf
 answer-is pairs s v = (check-settled (checked pairs s) v, ap checkAnswer)

@@ -91,7 +91,7 @@ module _ (v : Verdict) (result : List ℕ) where
     pub refused-keeps : (r : Refusal) → settled v result (length out) ≡ Refused r → left .output ≡ out
     refused-keeps r e = rw e
 
--- a refusal, in document 01's numbers
+-- a refusal, in numbers
 pub written-numbers : (w : Written) {G : Refusal → Type 0} → ((r : Refusal) → w ≡ Refused r ↔ G r) → (r : Refusal) → writtenAnswer w ≡ refused r ↔ G r
 written-numbers = in-numbers writtenAnswer Refused written-settled (λ r. refl)
 

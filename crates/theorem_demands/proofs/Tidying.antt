@@ -30,7 +30,7 @@ use Rattle.segment.proofs.Shapes.{v3-shaped}
 use Rattle.form_laws.proofs.SortedForm.{tidy-bytes}
 use Rattle.form_laws.proofs.Canonical.{tidy-meets, tidy-same, tidy-ascends, tidy-again, tidy-canonical}
 use Rattle.form_laws.proofs.Meanings.{meaning-writable}
-use Rattle.theorem_demands.specs.PCases.{accepted}
+use Rattle.theorem_demands.specs.Answered.{accepted}
 use Rattle.theorem_demands.specs.Tidying.{Wrote, tidyBytes, Tidiable, TidyGiven, Keeps, SameForm}
 use Rattle.theorem_demands.proofs.Rulebook.{answer-is, accepts-iff}
 use Rattle.theorem_demands.proofs.Refusals.{refused-iff}
@@ -54,7 +54,7 @@ module _ (pairs s : List ℕ) where
   unfolding tidied
   tidy-refused-iff room r = settled-refused (checked pairs s) (tidyBytes s) (Iff·symm (answer-is pairs s Accepted)) (refused-iff pairs s) room r
 
-  -- in document 01's numbers
+  -- in numbers
   pub tidy-refused-numbers : (out : List ℕ) (r : Refusal) → tidyOf pairs s out .answer ≡ refused r ↔ TidyGiven pairs s (length out) r
   unfolding tidyOf
   tidy-refused-numbers out = written-numbers (tidied pairs s (length out)) (tidy-refused-iff (length out))

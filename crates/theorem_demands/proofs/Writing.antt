@@ -47,7 +47,7 @@ use Rattle.form_laws.specs.Form.{ExtentWritable, Writable, Contents}
 use Rattle.lists.proofs.Counted.{counted-long, each-iff, pairwise-iff}
 use Rattle.form_laws.proofs.Meanings.{meaning-writable}
 use Rattle.segment.specs.Asked.{Asked}
-use Rattle.theorem_demands.specs.PCases.{accepted}
+use Rattle.theorem_demands.specs.Answered.{accepted}
 use Rattle.theorem_demands.specs.Tidying.{Wrote, tidyBytes, Tidiable, Keeps}
 use Rattle.theorem_demands.specs.Writing.{Wide, Lent, Asks, writtenBytes, Writes, WriteGiven}
 use Rattle.theorem_demands.specs.Asking.{requestFor, AskedFor}
@@ -74,7 +74,7 @@ module _ (pairs : List ℕ) (q : Request) where
   write-refused-iff room r =
       settled-refused (requestVerdict v3 pairs q) (writtenBytes q) (request-accepted pairs q) (request-refused-iff pairs q) room r
 
-  -- in document 01's numbers
+  -- in numbers
   pub write-refused-numbers : (out : List ℕ) (r : Refusal) → writeOf pairs q out .answer ≡ refused r ↔ WriteGiven pairs q (length out) r
   unfolding writeOf
   write-refused-numbers out = written-numbers (wrote pairs q (length out)) (write-refused-iff (length out))

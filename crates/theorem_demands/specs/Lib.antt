@@ -1,8 +1,6 @@
-pub mod PCases
+pub mod Answered
 pub mod Refusals
 pub mod LookUps
 pub mod Tidying
 pub mod Writing
 pub mod Asking
-pub mod Answering
-pub mod Demands

@@ -1,4 +1,5 @@
--- Document 01, demand 2 on look up: of an accepted segment and a key that the table allows it says absent exactly when no record has the key, and
+-- docs/SERVICES.md, "The three demands", 2 on look up:
+-- of an accepted segment and a key that the table allows it says absent exactly when no record has the key, and
 -- otherwise gives that record; no two records have it.
 -- Assumes nothing: these are definitions.
 use Prim.Native.Nat.{ℕ, _*_, _<_}
@@ -6,7 +7,7 @@ use mathlib.Core.Path.{_≡_}
 use mathlib.Core.Bool.{true, false}
 use mathlib.Core.Logic.{_↔_}
 use mathlib.Core.List.{List}
-use lib.ListN.{length, take, drop}
+use lib.ListN.{take, drop}
 use Rattle.answer.specs.declared.Refusal.{Refusal}
 use Rattle.answer.specs.declared.Rule.the-variants.{Table, Key as KeyWrong}
 use Rattle.answer.specs.Answers.{refusal, foundAnswer}
@@ -15,7 +16,7 @@ use Rattle.table.specs.Table.{goodTable}
 use Rattle.segment.specs.Keys.{Key, keyOf, allowsKey}
 use Rattle.segment.specs.Check.{keyNo}
 use Rattle.segment.specs.LookUp.{recordFound, lookedUp, lookUpOf, extentsPart}
-use Rattle.theorem_demands.specs.PCases.{absent}
+use Rattle.theorem_demands.specs.Answered.{absent}
 use Rattle.theorem_demands.specs.Refusals.{Given}
 
 -- record k of the segment has the key

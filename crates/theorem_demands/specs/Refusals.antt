@@ -1,4 +1,4 @@
--- Document 01, "What comes back": each refusal of check is given exactly when its rule is broken, if none before it in the order applies. The order is
+-- docs/SERVICES.md, "The order of refusals": each refusal of check is given exactly when its rule is broken, if none before it in the order applies. The order is
 -- 14, 1 to 6, then records by number and within one 7 to 10, then 11, 12.
 --   UpTo..      every rule is kept, in that order, up to and with the one named
 --   Given       a refusal's rule is broken, and all that comes before it is kept

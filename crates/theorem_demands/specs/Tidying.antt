@@ -1,4 +1,5 @@
--- Document 01, demand 3: what tidy writes is accepted, means the same as what it was lent, and is not changed by tidying it again; two segments are tidied
+-- docs/SERVICES.md, "The three demands", 3:
+-- what tidy writes is accepted, means the same as what it was lent, and is not changed by tidying it again; two segments are tidied
 -- into the same bytes exactly when they mean the same. And each refusal of tidy: as check, then 16, 13.
 --   Wrote       what a call that writes leaves when it is answered
 --   tidyBytes   the tidy form of a segment's meaning
@@ -20,7 +21,7 @@ use Rattle.segment.specs.Check.{checkOf}
 use Rattle.segment.specs.Meaning.{Meaning, meaningOf, SameMeaning}
 use Rattle.segment.specs.Tidy.{rowLeq, tidyForm, Outcome, tidyOf}
 use Rattle.lists.specs.Lists.{Ascending}
-use Rattle.theorem_demands.specs.PCases.{accepted}
+use Rattle.theorem_demands.specs.Answered.{accepted}
 use Rattle.theorem_demands.specs.Refusals.{Given}
 
 -- the answer is the length of what was written, it stands at the front of the output, and the bytes after it stay

@@ -1,4 +1,5 @@
--- Document 01, demand 2 on write: what it writes is accepted under the same table and, read back, gives what was asked for. And each refusal of write: 14, 16
+-- docs/SERVICES.md, "The three demands", 2 on write:
+-- what it writes is accepted under the same table and, read back, gives what was asked for. And each refusal of write: 14, 16
 -- for the entry count, 5, then entries by number and within one 7, 15, 8, 9, 10; then 12, 16 for size, 13.
 --   Lent           what the types of the lent parts say of their numbers
 --   Asks           nothing is refused before the size

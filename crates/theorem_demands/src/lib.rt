@@ -1,1 +1,1 @@
-// The demands of document 01 and its P cases, as theorems over the definitions of the crates below. There is no code here.
+// What each service answers, exactly when, as theorems over the definitions of the crates below. There is no code here.

@@ -24,7 +24,7 @@ use Rattle.segment.specs.Format.{
 }
 use Rattle.segment.specs.Check.{checkOf}
 use Rattle.segment.specs.Meets.{LayoutMeets}
-use Rattle.theorem_demands.specs.PCases.{accepted}
+use Rattle.theorem_demands.specs.Answered.{accepted}
 use Rattle.theorem_demands.proofs.Rulebook.{accepts-iff}
 use Rattle.theorem_meaning.specs.Accounts.{part, headerStretch, bloomStretch, recordsStretch, digestsStretch, extentsStretch, footerStretch, EachByteOnce}
 

@@ -18,7 +18,7 @@ use Rattle.segment.specs.declared.header.Header.{Header}
 use Rattle.segment.specs.declared.header.Heading.{Heading}
 use Rattle.segment.specs.declared.record.Record.{Record}
 use Rattle.segment.specs.declared.extent.Extent.{Extent}
-use Rattle.segment.specs.Format.{v3, headerOf, recordCount, recordNo, extentOf, extentsAt}
+use Rattle.segment.specs.Format.{v3, inFile, headerOf, recordCount, recordNo, extentOf, extentsAt}
 use Rattle.table.specs.Table.{allows}
 use Rattle.segment.specs.Keys.{keyOf, Key, allowsKey}
 use Rattle.segment.specs.Check.{isGone, keyNo, checkOf}
@@ -26,7 +26,7 @@ use Rattle.segment.specs.Meets.{LayoutMeets, LiveMeets, RecordMeets, Meets}
 use Rattle.segment.specs.Meaning.{Row, rowKey, sourceOf, rowOf, rowNo, rowsOf, headingOf, meaningOf, SameMeaning}
 use Rattle.segment.specs.LookUp.{recordFound, lookedUp, lookUpOf, extentsPart}
 use Rattle.segment.proofs.Extents.{extents-counted}
-use Rattle.theorem_demands.specs.PCases.{accepted, absent}
+use Rattle.theorem_demands.specs.Answered.{accepted, absent}
 use Rattle.theorem_demands.specs.LookUps.{HasKey, Finds}
 use Rattle.theorem_demands.proofs.Rulebook.{accepts-iff}
 use Rattle.theorem_demands.proofs.LookUps.{look-up-finds}
@@ -70,7 +70,7 @@ record-told s h pairs q y m =
     rw z at (part-extents s at (16 * count) 0 count (omega (arith, inside, y .file)) (omega arith)) in
     let total = sym (m .total .live n .sum) in
     let counted = sym (extents-counted s at count) in
-    rw g (λ j. record { answer = foundAnswer (Present (q .visibility) (m .marks .domain j) source (total j) 0 (counted j)); extents = there j }))
+    rw g (λ j. record { answer = foundAnswer (Present (q .visibility) (m .marks .domain j) source (total j) (inFile 0) (counted j)); extents = there j }))
 
 -- ---- an accepted segment
 

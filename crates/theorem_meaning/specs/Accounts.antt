@@ -1,4 +1,5 @@
--- Document 01: in a file with the right length, header, sections and footer account for each byte once. Each section is taken from where the header says that it
+-- docs/FORMAT.md, "The whole file":
+-- in a file with the right length, header, sections and footer account for each byte once. Each section is taken from where the header says that it
 -- lies, with the size that the header gives it.
 -- Assumes nothing: these are definitions.
 use Prim.Native.Nat.{ℕ, _-_, _*_}

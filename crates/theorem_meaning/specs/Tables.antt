@@ -1,4 +1,5 @@
--- Document 01, the store's table, pair by pair: a list of 1 to 16 pairs, hash id and digest length. Lengths are 1 to 1,024 and no hash id stands twice. It is lent
+-- docs/SERVICES.md, "The store's table", pair by pair:
+-- a list of 1 to 16 pairs, hash id and digest length. Lengths are 1 to 1,024 and no hash id stands twice. It is lent
 -- as a flat list of numbers, of which no pair is unfinished and each hash id fits its field.
 --   TableMeets   the table's rule
 --   Allowed      a pair has this hash id and this length

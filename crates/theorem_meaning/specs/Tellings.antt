@@ -16,14 +16,14 @@ use Rattle.answer.specs.declared.Found.{Found}
 use Rattle.answer.specs.declared.Found.the-variants.{Absent, Gone, Present, Refused}
 use Rattle.answer.specs.Answers.{Answer, foundAnswer}
 use Rattle.segment.specs.declared.extent.Extent.{Extent}
-use Rattle.segment.specs.Format.{v3, extentsAt}
+use Rattle.segment.specs.Format.{v3, inFile, extentsAt}
 use Rattle.segment.specs.Keys.{keyOf, Key}
 use Rattle.segment.specs.Check.{sumLengths}
 use Rattle.segment.specs.Meaning.{State, gone, live, Row, rowKey, rowExtents, meaningOf}
 use Rattle.segment.specs.LookUp.{lookedUp, lookUpOf, extentsPart}
-use Rattle.theorem_demands.specs.PCases.{absent}
+use Rattle.theorem_demands.specs.Answered.{absent}
 
--- the answer in document 01's numbers, with 0 for where the extents lie; and the extents themselves
+-- the answer in numbers, with 0 for where the extents lie; and the extents themselves
 pub record Telling : Type 0 where
   pub answer : Answer
   pub extents : List Extent
@@ -31,7 +31,7 @@ pub record Telling : Type 0 where
 abbrev pub anywhere : Found → Found
 anywhere Absent = Absent
 anywhere (Gone visibility domain source) = Gone visibility domain source
-anywhere (Present visibility domain source total start count) = Present visibility domain source total 0 count
+anywhere (Present visibility domain source total start count) = Present visibility domain source total (inFile 0) count
 anywhere (Refused r) = Refused r
 
 -- the extents, read out of the part of the segment that is handed back
@@ -46,7 +46,7 @@ tellingOf f s = record { answer = foundAnswer (anywhere f); extents = extentsTol
 
 abbrev pub stateFound : (visibility domain : ℕ) → Source → State → Found
 stateFound visibility domain source gone = Gone visibility domain source
-stateFound visibility domain source (live es) = Present visibility domain source (sumLengths es) 0 (length es)
+stateFound visibility domain source (live es) = Present visibility domain source (sumLengths es) (inFile 0) (length es)
 
 abbrev pub rowTelling : ℕ → Row → Telling
 rowTelling domain r = record { answer = foundAnswer (stateFound (r .visibility) domain (r .source) (r .state)); extents = rowExtents r }

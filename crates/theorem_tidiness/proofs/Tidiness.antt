@@ -17,7 +17,7 @@ use Rattle.segment.specs.Meaning.{Meaning, Row, rowOf, rowNo, rowsOf, meaningOf
 use Rattle.segment.specs.Tidy.{rowLeq, formOf, tidyForm}
 use Rattle.segment.specs.Write.{writeOf}
 use Rattle.lists.proofs.Arranged.{sort-keeps}
-use Rattle.theorem_demands.specs.PCases.{accepted}
+use Rattle.theorem_demands.specs.Answered.{accepted}
 use Rattle.theorem_demands.specs.Tidying.{Wrote, tidyBytes, Keeps}
 use Rattle.theorem_demands.specs.Asking.{requestFor}
 use Rattle.theorem_demands.proofs.Rulebook.{accepts-iff}

@@ -36,9 +36,10 @@ use Rattle.segment.specs.Tidy.{
   tidied,
   tidyOf,
 }
-use Rattle.theorem_demands.specs.PCases.{accepted, caseL, tidyOfRows}
+use Rattle.theorem_demands.specs.Answered.{accepted}
+use Rattle.theorem_cases.specs.PCases.{caseL, tidyOfRows}
 use Rattle.theorem_demands.specs.Tidying.{Wrote, tidyBytes, Keeps}
-use Rattle.theorem_demands.proofs.PCases.{case-l}
+use Rattle.theorem_cases.proofs.PCases.{case-l}
 use Rattle.theorem_demands.proofs.Rulebook.{accepts-iff}
 use Rattle.theorem_demands.proofs.Tidying.{form-keeps, form-same-iff, accepted-form}
 use Rattle.theorem_two_orders.specs.declared.Answers.{Answers}
@@ -46,7 +47,7 @@ use Rattle.theorem_two_orders.specs.Orders.{table, headingL, turnedL, Ho
 
 long : length formL ≡ 256
 unfolding formL
-long = case-l headingL .long
+long = case-l .form-lies headingL .long
 
 turned-long : length (tidyOfRows headingL turnedL) ≡ 256
 unfolding tidyForm formOf formBody sortBy insert lexLeq packed headerFields recordFields recordsBytes digestBytes digestSection extentListBytes extentBytes extentFields footerFields bytesOf

@@ -16,7 +16,8 @@ use Rattle.segment.specs.Format.{v3}
 use Rattle.segment.specs.Check.{checkOf}
 use Rattle.segment.specs.Meaning.{Row, meaningOf}
 use Rattle.segment.specs.Tidy.{outcome, tidyOf}
-use Rattle.theorem_demands.specs.PCases.{accepted, caseL, tidyOfRows}
+use Rattle.theorem_demands.specs.Answered.{accepted}
+use Rattle.theorem_cases.specs.PCases.{caseL, tidyOfRows}
 use Rattle.theorem_two_orders.specs.declared.Answers.{Answers}
 
 abbrev pub table : List ℕ

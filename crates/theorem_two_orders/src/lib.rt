@@ -1,6 +1,6 @@
-// Two segments of one meaning: document 01's case L, and the same records in the other order with their digests exchanged. Tidy makes the
+// Two segments of one meaning: case L, and the same records in the other order with their digests exchanged. Tidy makes the
 // same bytes of both, by the theorem of demand 3 and not by a run.
-ghost use Rattle.theorem_demands.specs.PCases.{caseL};
+ghost use Rattle.theorem_cases.specs.PCases.{caseL};
 ghost use Rattle.theorem_two_orders.specs.Orders.{turnedL, Holds, OneForm};
 use answer::Written;
 

@@ -27,13 +27,13 @@ use Rattle.check_book.proofs.Book.{under-table}
 use Rattle.key.specs.declared.Kind.the-variants.{Records}
 use Rattle.put_item.specs.Lines.{recordEntry, itemEntry, itemExtents, Held, itemTotal, extentsOfEntry, rowOfEntry, itemRow, Line}
 use Rattle.put_tidy.specs.ItemsForm.{AllLines, itemsForm}
-use Rattle.put_form.specs.Emit.{Left}
-use Rattle.put_tidy.proofs.Left.{left-under, left-outcome}
+use Rattle.put_form.specs.Emit.{EmittedAfter}
+use Rattle.put_tidy.proofs.EmittedAfter.{emitted-under, emitted-outcome}
 
 -- ---- its records
 
 module _ (sh : Shape) (s : List ℕ) (h : Header) (v : Readable sh s h) where
-  record-line : Bytes s → (list extents : List ℕ) (k : ℕ) → k < recordCount h → Line (Records (recordsOffset h) sh) s list extents k
+  record-line : Bytes s → (list extents : List ℕ) (k : ℕ) → k < recordCount h → Line (Records (h .«records_offset») sh) s list extents k
   unfolding itemEntry recordEntry Held itemTotal extentsOfEntry itemExtents recordNo recordOf
   record-line b list extents k l =
       let r = v .each k l in
@@ -57,7 +57,7 @@ module _ (sh : Shape) (s : List ℕ) (h : Header) (v : Readable sh s h) where
         fits = omega (arith, r .limit, shaped-limit sh (v .laid .shaped));
       }
 
-  pub read-lines : Bytes s → (list extents : List ℕ) → AllLines (Records (recordsOffset h) sh) s list extents (recordCount h)
+  pub read-lines : Bytes s → (list extents : List ℕ) → AllLines (Records (h .«records_offset») sh) s list extents (recordCount h)
   read-lines b list extents = record { each = record-line b list extents }
 
   pub bloom-within : 112 + bloomSize h ≤ length s
@@ -66,18 +66,18 @@ module _ (sh : Shape) (s : List ℕ) (h : Header) (v : Readable sh s h) where
 -- ---- its tidy form
 
 same-form : (sh : Shape) (s list extents : List ℕ)
-    → itemsForm sh (headingOf s (headerOf s)) (take (bloomSize (headerOf s)) (drop 112 s)) (Records (recordsOffset (headerOf s)) sh) s list extents (recordCount (headerOf s))
+    → itemsForm sh (headingOf s (headerOf s)) (take (bloomSize (headerOf s)) (drop 112 s)) (Records (headerOf s .«records_offset») sh) s list extents (recordCount (headerOf s))
     ≡ tidyForm sh (meaningOf sh s)
 unfolding itemsForm meaningOf rowsOf rowNo rowOf recordNo itemRow rowOfEntry itemEntry recordEntry extentsOfEntry itemExtents digestIn
 same-form sh s list extents = refl
 
 pub read-form : (sh : Shape) (s list extents : List ℕ) (h : Header) (t : Heading) → h ≡ headerOf s → t ≡ headingOf s h
-    → itemsForm sh t (take (112 + bloomSize h - 112) (drop 112 s)) (Records (recordsOffset h) sh) s list extents (recordCount h) ≡ tidyForm sh (meaningOf sh s)
+    → itemsForm sh t (take (112 + bloomSize h - 112) (drop 112 s)) (Records (h .«records_offset») sh) s list extents (recordCount h) ≡ tidyForm sh (meaningOf sh s)
 read-form sh s list extents h t e f =
     let n : 112 + bloomSize h - 112 ≡ bloomSize h = omega arith in
-    ap (λ (x : Heading). itemsForm sh x (take (112 + bloomSize h - 112) (drop 112 s)) (Records (recordsOffset h) sh) s list extents (recordCount h)) f
-    ∙ ap (λ (k : ℕ). itemsForm sh (headingOf s h) (take k (drop 112 s)) (Records (recordsOffset h) sh) s list extents (recordCount h)) n
-    ∙ ap (λ (x : Header). itemsForm sh (headingOf s x) (take (bloomSize x) (drop 112 s)) (Records (recordsOffset x) sh) s list extents (recordCount x)) e
+    ap (λ (x : Heading). itemsForm sh x (take (112 + bloomSize h - 112) (drop 112 s)) (Records (h .«records_offset») sh) s list extents (recordCount h)) f
+    ∙ ap (λ (k : ℕ). itemsForm sh (headingOf s h) (take k (drop 112 s)) (Records (h .«records_offset») sh) s list extents (recordCount h)) n
+    ∙ ap (λ (x : Header). itemsForm sh (headingOf s x) (take (bloomSize x) (drop 112 s)) (Records (x .«records_offset») sh) s list extents (recordCount x)) e
     ∙ same-form sh s list extents
 
 -- ---- the table before the rest
@@ -88,8 +88,8 @@ module _ (pairs s out : List ℕ) where
   table-bad e = rw e
 
   pub table-good : (pairs′ after : List ℕ) (w : Written) → goodTable pairs ≡ true → pairs′ ≡ pairs
-      → Left (segmentVerdict v3 pairs′ s) (tidyForm v3 (meaningOf v3 s)) out after w → outcome w after ≡ tidyOf pairs s out
+      → EmittedAfter (segmentVerdict v3 pairs′ s) (tidyForm v3 (meaningOf v3 s)) out after w → outcome w after ≡ tidyOf pairs s out
   unfolding tidyOf tidied
-  table-good pairs′ after w g e h = left-outcome (checked pairs s) (tidyForm v3 (meaningOf v3 s)) out after w (
-      left-under (checked pairs s) (tidyForm v3 (meaningOf v3 s)) out _ after w (ap (λ (p : List ℕ). segmentVerdict v3 p s) e ∙ sym (under-table pairs s g)) h
+  table-good pairs′ after w g e h = emitted-outcome (checked pairs s) (tidyForm v3 (meaningOf v3 s)) out after w (
+      emitted-under (checked pairs s) (tidyForm v3 (meaningOf v3 s)) out _ after w (ap (λ (p : List ℕ). segmentVerdict v3 p s) e ∙ sym (under-table pairs s g)) h
       )

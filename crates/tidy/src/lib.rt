@@ -1,4 +1,4 @@
-// Tidy: the tidy form of a segment, or the first rule of document 01 that the segment breaks.
+// Tidy: the tidy form of a segment, or the first rule that the segment breaks (docs/SERVICES.md, "Tidy and its length").
 ghost use mathlib.Core.Path.{_≡_};
 ghost use mathlib.Core.Bool.{true};
 ghost use Prim.Native.Nat.{_≤_};
@@ -8,12 +8,13 @@ ghost use Rattle.table.specs.Table.{goodTable};
 ghost use Rattle.segment.specs.Check.{segmentVerdict};
 ghost use Rattle.segment.specs.Meaning.{headingOf, meaningOf};
 ghost use Rattle.segment.specs.Tidy.{tidyForm, outcome, tidyOf};
-ghost use Rattle.put_form.specs.Emit.{Left};
+ghost use Rattle.put_form.specs.Emit.{EmittedAfter};
 use answer::Refusal;
 use answer::Rule;
 use answer::Verdict;
 use answer::Written;
 use key::Kind;
+use offset::FileOffset;
 use segment::footer::Footer;
 use segment::header::Header;
 use segment::header::Heading;
@@ -24,7 +25,7 @@ fn heading_of(seg: &[u8], h: Header) -> Heading
     requires { ⌜ leastFile ≤ length (now seg) ⌝ }
     ensures { λ r. ⌜ r ≡ headingOf (now (seg .entry)) h ⌝ }
 {
-    let f = Footer::at(seg, seg.len() - Footer::SIZE);
+    let f = Footer::at(seg, FileOffset((seg.len() - Footer::SIZE) as u64));
     Heading {
         shard: h.shard,
         snapshot_min: h.snapshot_min,
@@ -38,7 +39,7 @@ fn heading_of(seg: &[u8], h: Header) -> Heading
 // Everything but the table. Records are read from the segment alone.
 fn tidy_under(pairs: &[u64], seg: &[u8], out: &mut [u8]) -> Written
     requires { ⌜ goodTable (now pairs) ≡ true ⌝ }
-    ensures { λ r. ⌜ Left (segmentVerdict v3 (now (pairs .entry)) (now (seg .entry))) (tidyForm v3 (meaningOf v3 (now (seg .entry))))
+    ensures { λ r. ⌜ EmittedAfter (segmentVerdict v3 (now (pairs .entry)) (now (seg .entry))) (tidyForm v3 (meaningOf v3 (now (seg .entry))))
         (now (out .entry)) (now (out .exit)) r ⌝ }
 {
     match check_segment::check_segment(pairs, seg) {
@@ -50,7 +51,8 @@ fn tidy_under(pairs: &[u64], seg: &[u8], out: &mut [u8]) -> Written
     let h = Header::of(seg);
     let t = heading_of(seg, h);
     let end = Header::SIZE + h.bloom_size as usize;
-    let records = Kind::Records(h.records_offset.0 as usize, Shape::V3);
+    let first = h.records_offset;
+    let records = Kind::Records(first, Shape::V3);
     let n = h.record_count as usize;
     put_tidy::put_tidy(
         Shape::V3,

@@ -16,7 +16,6 @@ use answer::Written;
 use segment::extent::Extent;
 use segment::footer::Footer;
 use segment::header::Header;
-use segment::record::Record;
 use segment::shape::Shape;
 
 // What the records come to: how many bytes their digests are, and how many extents they have.
@@ -29,12 +28,12 @@ fn sum_records(sh: Shape, seg: &[u8], h: Header) -> Sums
     requires { ⌜ Readable sh (now seg) h ⌝ }
     ensures { λ r. ⌜ Summed sh (now (seg .entry)) h r ⌝ }
 {
-    let first = h.records_offset.0 as usize;
+    let first = h.records_offset;
     let mut digests: u64 = 0;
     let mut extents: u64 = 0;
     let mut k = 0;
     while k < h.record_count as usize {
-        let r = Record::nth(sh, seg, first, k);
+        let r = sh.nth_record(seg, first, k);
         digests += r.digest_length as u64;
         extents += r.extent_count as u64;
         k += 1;

@@ -5,7 +5,6 @@ ghost use Rattle.segment.specs.Walk.{stepped};
 ghost use Rattle.walk_step.specs.Steps.{turnOf};
 use answer::Verdict;
 use segment::header::Header;
-use segment::record::Record;
 use segment::shape::Shape;
 use segment::step::Step;
 
@@ -26,12 +25,12 @@ fn step_at(pairs: &[u64], segment: &[u8], at: usize) -> Step
         Verdict::Accepted => {}
     }
     let h = Header::of(segment);
-    let first = h.records_offset.0 as usize;
+    let first = h.records_offset;
     let count = h.record_count as usize;
     if count <= at {
         return Step::Done;
     }
-    Step::Row(Record::nth(Shape::V3, segment, first, at))
+    Step::Row(Shape::V3.nth_record(segment, first, at))
 }
 
 // A step with the place after it: one on after a record, else the same.

@@ -24,8 +24,8 @@ use Rattle.key.specs.declared.Kind.the-variants.{Entries}
 use Rattle.put_item.specs.Lines.{itemEntry, itemExtents, Held, itemTotal, extentsOfEntry, rowOfEntry, itemRow, Line}
 use Rattle.write_book.proofs.RequestBook.{request-book, request-items}
 use Rattle.put_tidy.specs.ItemsForm.{AllLines, itemsForm}
-use Rattle.put_form.specs.Emit.{Left}
-use Rattle.put_tidy.proofs.Left.{left-under, left-outcome}
+use Rattle.put_form.specs.Emit.{EmittedAfter}
+use Rattle.put_tidy.proofs.EmittedAfter.{emitted-under, emitted-outcome}
 use Rattle.write.specs.Seal.{asked}
 
 module _ (sh : Shape) (w : Shaped sh) (pairs bloom entries digests extents : List ℕ) (g : goodTable pairs ≡ true) (a : requestRules sh pairs (length bloom) entries digests extents ≡ Accepted) where
@@ -78,9 +78,9 @@ module _ (pairs : List ℕ) (q : Request) (out : List ℕ) where
   under-table g = rw g
 
   pub table-good : (pairs′ after : List ℕ) (w : Written) → goodTable pairs ≡ true → pairs′ ≡ pairs
-      → Left (requestRules v3 pairs′ (length (q .bloom)) (q .entries) (q .digests) (q .extents)) (tidyForm v3 (requested q)) out after w
+      → EmittedAfter (requestRules v3 pairs′ (length (q .bloom)) (q .entries) (q .digests) (q .extents)) (tidyForm v3 (requested q)) out after w
       → outcome w after ≡ writeOf pairs q out
   unfolding writeOf wrote
   table-good pairs′ after w g e h =
-      let l = left-under (requestVerdict v3 pairs q) (tidyForm v3 (requested q)) out _ after w (ap (λ (p : List ℕ). requestRules v3 p (length (q .bloom)) (q .entries) (q .digests) (q .extents)) e ∙ under-table g) h in
-      left-outcome (requestVerdict v3 pairs q) (tidyForm v3 (requested q)) out after w l
+      let l = emitted-under (requestVerdict v3 pairs q) (tidyForm v3 (requested q)) out _ after w (ap (λ (p : List ℕ). requestRules v3 p (length (q .bloom)) (q .entries) (q .digests) (q .extents)) e ∙ under-table g) h in
+      emitted-outcome (requestVerdict v3 pairs q) (tidyForm v3 (requested q)) out after w l

@@ -1,4 +1,4 @@
-// Write: the tidy form of what is asked for, or the first rule of document 01 that the request breaks.
+// Write: the tidy form of what is asked for, or the first rule that the request breaks (docs/SERVICES.md, "Write").
 ghost use mathlib.Core.Path.{_≡_};
 ghost use mathlib.Core.Bool.{true};
 ghost use lib.ListN.{length};
@@ -6,7 +6,7 @@ ghost use Rattle.segment.specs.Format.{v3};
 ghost use Rattle.table.specs.Table.{goodTable};
 ghost use Rattle.segment.specs.Tidy.{tidyForm, outcome};
 ghost use Rattle.segment.specs.Write.{requestRules, requested, writeOf};
-ghost use Rattle.put_form.specs.Emit.{Left};
+ghost use Rattle.put_form.specs.Emit.{EmittedAfter};
 ghost use Rattle.write.specs.Seal.{asked};
 use answer::Refusal;
 use answer::Rule;
@@ -28,7 +28,7 @@ fn write_under(
     out: &mut [u8],
 ) -> Written
     requires { ⌜ goodTable (now pairs) ≡ true ⌝ }
-    ensures { λ r. ⌜ Left
+    ensures { λ r. ⌜ EmittedAfter
         (requestRules v3 (now (pairs .entry)) (length (now (bloom .entry))) (now (entries .entry)) (now (digests .entry)) (now (extents .entry)))
         (tidyForm v3 (requested (asked t (now (bloom .entry)) (now (entries .entry)) (now (digests .entry)) (now (extents .entry)))))
         (now (out .entry)) (now (out .exit)) r ⌝ }

@@ -1,5 +1,6 @@
 -- `check_extents::sum_extents` meets its contract: what is left of the extents decides.
 use Prim.Native.Nat.{_-_}
+use mathlib.Core.Path.{sym, _∙_}
 use borrow.Author.Needs.{needs}
 use native.Mathlib.Omega.{arith}
 use Rattle.check_extents.proofs.ExtentRows.{Summing, sum-start, sum-past, sum-more, sum-done}
@@ -7,7 +8,7 @@ use Rattle.check_extents.proofs.sum_extents.Statement.{statement}
 use Rattle.check_extents.proofs.sum_extents.Tie as tie
 
 abbrev Inv-loop : tie.InvT-loop
-Inv-loop seg at count sum₀ i₀ sum i = Summing seg at count i sum
+Inv-loop seg at count sum₀ i₀ sum i = Summing seg (at .0) count i sum
 
 abbrev μ-loop : tie.MeasureT-loop
 μ-loop seg at count sum₀ i₀ sum i = count - i
@@ -15,12 +16,12 @@ abbrev μ-loop : tie.MeasureT-loop
 past : tie.Need-returns Inv-loop μ-loop
 past c =
     let at = c .before .before .before in
-    sum-past _ _ _ _ _ _ _ (at .before .before .loop .inv) (omega arith) (at .offset .ensures) (c .before .length .ensures) (c .if1 .taken)
+    sum-past _ _ _ _ _ _ _ (at .before .before .before .loop .inv) (omega arith) (c .before .before .offset .ensures) (at .length .ensures) (sym (c .before .passes-block .ensures) ∙ c .if1 .taken)
 
 more : tie.Need-loop-again Inv-loop μ-loop
 more c =
     let at = c .before .before .before in
-    sum-more _ _ _ _ _ _ _ (at .before .before .loop .inv) (omega arith) (at .offset .ensures) (c .before .length .ensures) (omega arith) (omega arith)
+    sum-more _ _ _ _ _ _ _ (at .before .before .before .loop .inv) (omega arith) (c .before .before .offset .ensures) (at .length .ensures) (sym (c .before .passes-block .ensures) ∙ c .if1 .left) (omega arith)
 
 pub sum-extents-spec : {M : Type 1} → statement M
 sum-extents-spec =
@@ -32,11 +33,10 @@ sum-extents-spec =
     (λ c. omega arith)
     (λ c. omega arith)
     (λ c κs. omega arith)
-    (λ c. search needs)
     (λ c κs. omega arith)
-    (λ c. search needs)
-    (λ c. omega arith)
+    (λ c κs. search needs)
     past
+    (λ c. search needs)
     (λ c. omega arith)
     (λ c. search needs)
     (λ c. search needs)

@@ -14,16 +14,16 @@ Inv-loop sh pairs seg h count first largest₀ k₀ largest k = (k ≤ count) ×
 abbrev μ-loop : tie.MeasureT-loop
 μ-loop sh pairs seg h count first largest₀ k₀ largest k = count - k
 
-nth : tie.Need-nth-requires Inv-loop μ-loop
-nth c κs =
-    let laid = c .before .before .before .before .pre in
+read : tie.Need-nth-record-requires Inv-loop μ-loop
+read c κs =
+    let laid = c .before .before .before .before .before .pre in
     (laid .shaped, record-inside laid (c .before .loop .k) (omega arith))
 
 refused : tie.Need-returns Inv-loop μ-loop
 refused c =
     let said = c .before .before .before in
     let at = said .before .before in
-    pass-refused _ _ _ _ _ _ _ (at .before .before .loop .inv .1) (at .nth .ensures) _ (said .before .place-of .ensures) _ _ (omega arith)
+    pass-refused _ _ _ _ _ _ _ (at .before .before .loop .inv .1) (at .nth-record .ensures) _ (said .before .place-of .ensures) _ _ (omega arith)
     (sym (said .check-record .ensures) ∙ c .before .x .given .1)
 
 more : tie.Need-loop-again Inv-loop μ-loop
@@ -33,7 +33,7 @@ more c =
     let at = said .before .before in
     let largest = at .before .before .loop .largest in (
       omega arith,
-      pass-more _ _ _ _ _ _ _ (at .before .before .loop .inv .1) (at .nth .ensures) _ (said .before .place-of .ensures) _ (sym (said .check-record .ensures) ∙ passed .enum-told .given .1)
+      pass-more _ _ _ _ _ _ _ (at .before .before .loop .inv .1) (at .nth-record .ensures) _ (said .before .place-of .ensures) _ (sym (said .check-record .ensures) ∙ passed .enum-told .given .1)
           (c .larger .ensures ∙ ap (max largest) (c .before .«counts-with» .ensures)),
     )
 
@@ -44,9 +44,9 @@ check-records-spec =
     Inv-loop
     μ-loop
     (λ c. (omega arith, pass-start _ _ _ _))
-    nth
+    read
     (λ c κs. search needs)
-    (λ c κs. laid-inside (c .before .before .before .before .before .before .pre))
+    (λ c κs. laid-inside (c .before .before .before .before .before .before .before .pre))
     (λ c. search needs)
     refused
     (λ c. search needs)

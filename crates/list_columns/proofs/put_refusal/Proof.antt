@@ -8,10 +8,11 @@ use Rattle.list_columns.proofs.put_refusal.Tie as tie
 
 returns : tie.Need-returns
 returns c =
-    let first = c .before .before .before .before in
+    let second = c .before .before in
+    let first = second .before .before .before .before .before .before in
     retold
-    (two (first .put-named .ensures) (c .put-named2 .ensures) 53 (omega arith))
-    (refusal-line _ _ _ (first .before .before .number .ensures) (c .before .before .place .ensures)) (omega arith)
+    (two (first .put-named .ensures) (second .put-named2 .ensures) 53 (omega arith))
+    (refusal-line _ _ _ (first .before .before .number .ensures) (second .before .before .place .ensures)) (omega arith)
 
 pub put-refusal-spec : {M : Type 1} → statement M
 put-refusal-spec =
@@ -23,4 +24,5 @@ put-refusal-spec =
     (λ c. search needs)
     (λ c κs. search needs)
     (λ c κs. search needs)
+    (λ c. search needs)
     returns)

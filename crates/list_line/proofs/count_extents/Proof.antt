@@ -21,12 +21,12 @@ count-extents-spec =
     Inv-loop
     μ-loop
     (λ c. counting-start _ _)
-    (λ c κs. let laid = c .before .before .before .pre .laid in (laid .shaped, record-inside laid _ (c .loop-test .taken)))
+    (λ c κs. let laid = c .before .before .before .before .pre .laid in (laid .shaped, record-inside laid _ (c .loop-test .taken)))
     (λ c. omega arith)
-    (λ c. let turn = c .before .before in let start = turn .before .before .before in
-    omega (arith, few-extents _ _ _ (start .pre) _ (turn .loop-test .taken) _ (c .before .nth .ensures), turn .before .loop .inv .small, turn .loop-test .taken, start .pre .laid .layout .few))
+    (λ c. let turn = c .before .before in let start = turn .before .before .before .before in
+    omega (arith, few-extents _ _ _ (start .pre) _ (turn .loop-test .taken) _ (c .before .nth-record .ensures), turn .before .loop .inv .small, turn .loop-test .taken, start .pre .laid .layout .few))
     (λ c. omega (arith, c .before .before .loop-test .taken))
     (λ c. omega (arith, c .before .before .loop-test .taken))
-    (λ c. let turn = c .before .before in let start = turn .before .before .before in
-    counting-more _ _ _ (start .pre) _ _ (turn .before .loop .inv) (turn .loop-test .taken) _ (c .before .nth .ensures))
-    (λ c. counting-done _ _ _ (c .before .before .before .pre) _ _ (c .before .loop .inv) (omega arith)))
+    (λ c. let turn = c .before .before in let start = turn .before .before .before .before in
+    counting-more _ _ _ (start .pre) _ _ (turn .before .loop .inv) (turn .loop-test .taken) _ (c .before .nth-record .ensures))
+    (λ c. counting-done _ _ _ (c .before .before .before .before .pre) _ _ (c .before .loop .inv) (omega arith)))

@@ -18,26 +18,26 @@ abbrev μ-loop : tie.MeasureT-loop
 known : (c : tie.After-of Inv-loop μ-loop) → Readable (c .before .before .before .args .sh) (c .before .before .before .args .seg .now) (c .of .result)
 known c = read _ _ _ (c .of .ensures) (c .before .before .before .pre)
 
-nth : tie.Need-nth-requires Inv-loop μ-loop
-nth c κs =
+row-inside : tie.Need-nth-record-requires Inv-loop μ-loop
+row-inside c κs =
     let loop = c .before .before .before .before in
-    let laid = known (loop .before) .laid in
+    let laid = known (loop .before .before) .laid in
     (laid .shaped, record-inside laid (loop .loop .k) (omega arith))
 
 hit : tie.Need-returns Inv-loop μ-loop
 hit c =
     let asked = c .before .before .before in
     let loop = asked .before .before .before in
-    search-hit _ _ _ _ _ _ (loop .before .of .ensures) _ (asked .key-is .ensures) _ _ (loop .loop .inv .1) (c .before .before .if1 .taken) (omega arith)
-    (c .before .nth .ensures) (c .found .ensures)
+    search-hit _ _ _ _ _ _ (loop .before .before .of .ensures) _ (asked .key-is .ensures) _ _ (loop .loop .inv .1) (c .before .before .if1 .taken) (omega arith)
+    (c .before .nth-record .ensures) (c .found .ensures)
 
 more : tie.Need-loop-again Inv-loop μ-loop
 more c =
     let loop = c .before .before .before .before in
-    (omega arith, search-more _ _ _ _ _ _ (loop .before .of .ensures) _ (c .before .key-is .ensures) (loop .loop .inv .1) (c .if1 .left))
+    (omega arith, search-more _ _ _ _ _ _ (loop .before .before .of .ensures) _ (c .before .key-is .ensures) (loop .loop .inv .1) (c .if1 .left))
 
 ends : tie.Need-returns-2 Inv-loop μ-loop
-ends c = search-done _ _ _ _ _ (c .before .before .of .ensures) (c .before .loop .inv .1) (omega arith) (omega arith)
+ends c = search-done _ _ _ _ _ (c .before .before .before .of .ensures) (c .before .loop .inv .1) (omega arith) (omega arith)
 
 pub find-spec : {M : Type 1} → statement M
 find-spec =
@@ -48,8 +48,8 @@ find-spec =
     (λ c κs. omega (arith, c .before .before .pre .long))
     (λ c. (omega arith, search-start _ _ _))
     (λ c. search needs)
-    (λ c κs. items _ _ _ _ (known (c .before .before .before)) .each _ (omega arith))
-    nth
+    (λ c κs. items _ _ _ _ (known (c .before .before .before .before)) .each _ (omega arith))
+    row-inside
     (λ c κs. search needs)
     hit
     (λ c. search needs)

@@ -10,5 +10,5 @@ found-spec =
     tie.close
     (tie.spec
     (λ c κs. search needs)
-    (λ c. found-gone _ _ (c .before .before .source .ensures) (omega arith))
-    (λ c. found-live _ _ (c .before .before .source .ensures) (omega arith)))
+    (λ c. found-gone _ _ (c .before .before .before .source .ensures) (omega arith))
+    (λ c. found-live _ _ (c .before .before .before .source .ensures) (omega arith)))

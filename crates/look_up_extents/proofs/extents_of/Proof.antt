@@ -1,7 +1,8 @@
 -- `look_up_extents::extents_of` meets its contract: each answer's own part.
 use borrow.Author.Needs.{needs}
 use native.Mathlib.Omega.{arith}
-use Rattle.look_up_extents.proofs.Parts.{part-absent, part-gone, part-present, part-refused}
+use Rattle.segment.specs.Keys.{keyFrom}
+use Rattle.look_up_extents.proofs.Parts.{inside, part-absent, part-gone, part-present, part-refused}
 use Rattle.look_up_extents.proofs.extents_of.Statement.{statement}
 use Rattle.look_up_extents.proofs.extents_of.Tie as tie
 
@@ -9,17 +10,18 @@ pub extents-of-spec : {M : Type 1} → statement M
 extents-of-spec =
     tie.close
     (tie.spec
-    (λ c. search needs)
     (λ c κs. search needs)
     (λ c. search needs)
     (λ c κs. search needs)
     (λ c. search needs)
-    (λ c. search needs)
-    (λ c. omega arith)
     (λ c κs. search needs)
     (λ c. search needs)
+    (λ c. search needs)
+    (λ c. search needs)
+    (λ c κs. let found = c .before in let said = found .before .before in omega (arith, inside _ _ _ _ (said .look-up .ensures) (found .visibility2 .given .1)))
+    (λ c. search needs)
     (λ c κs. search needs)
-    (λ c. part-absent _ _ _ (c .before .enum-told .given .1) (c .part-from .ensures))
-    (λ c. part-gone _ _ _ {v = (c .before .before .answer .given .0 .0)} {d = (c .before .before .answer .given .0 .1 .0)} {o = (c .before .before .answer .given .0 .1 .1 .0)} (c .before .before .answer .given .1) (c .part-from2 .ensures))
-    (λ c. part-present _ _ _ {v = (c .before .before .answer2 .given .0 .0)} {d = (c .before .before .answer2 .given .0 .1 .0)} {o = (c .before .before .answer2 .given .0 .1 .1 .0)} {t = (c .before .before .answer2 .given .0 .1 .1 .1 .0)} {at = (c .before .before .answer2 .given .0 .1 .1 .1 .1 .0)} {n = (c .before .before .answer2 .given .0 .1 .1 .1 .1 .1 .0)} (c .before .before .answer2 .given .1) (c .part-from3 .ensures))
-    (λ c. part-refused _ _ _ {r = (c .before .before .answer3 .given .0 .0)} (c .before .before .answer3 .given .1) (c .part-from4 .ensures)))
+    (λ c. let said = c .before .before .before in part-absent _ _ _ _ (said .look-up .ensures) _ (c .before .enum-told .given .1) (c .cut .ensures))
+    (λ c. let found = c .before .before in let said = found .before .before in part-gone _ _ _ _ (said .look-up .ensures) _ (found .visibility .given .1) (c .cut2 .ensures))
+    (λ c. let found = c .before .before in let said = found .before .before in part-present _ _ _ _ (said .look-up .ensures) _ (found .visibility2 .given .1) (c .cut3 .ensures))
+    (λ c. let found = c .before .before in let said = found .before .before in part-refused _ _ _ _ (said .look-up .ensures) _ (found .r .given .1) (c .cut4 .ensures)))

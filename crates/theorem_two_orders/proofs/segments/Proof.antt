@@ -34,7 +34,8 @@ use Rattle.segment.specs.Check.{
   checkOf,
 }
 use Rattle.segment.specs.Meaning.{rowOf, rowNo, rowsOf, headingOf, meaningOf}
-use Rattle.theorem_two_orders.proofs.Holding.{allBytes, held}
+use Rattle.theorem_cases.proofs.Sealed.{allBytes}
+use Rattle.theorem_two_orders.proofs.Holding.{held}
 use Rattle.theorem_two_orders.proofs.segments.Statement.{statement}
 use Rattle.theorem_two_orders.proofs.segments.Tie as tie
 

@@ -7,7 +7,7 @@ use Rattle.answer.specs.declared.Verdict.the-variants.{Accepted}
 use Rattle.segment.specs.Format.{v3, headerOf}
 use Rattle.segment.proofs.Shapes.{v3-shaped}
 use Rattle.segment.specs.Check.{segmentVerdict}
-use Rattle.put_tidy.proofs.Left.{left-refused, left-written}
+use Rattle.put_tidy.proofs.EmittedAfter.{emitted-refused, emitted-written}
 use Rattle.check_book.specs.Readable.{Readable}
 use Rattle.check_book.proofs.Readable.{under-readable, read}
 use Rattle.tidy.proofs.TidyRead.{bloom-within, read-lines, read-form}
@@ -33,18 +33,18 @@ tidy-under-spec =
     (tie.spec
     (λ c κs. search needs)
     (λ c. search needs)
-    (λ c. left-refused _ _ _ _ (sym (c .before .before .before .check-segment .ensures) ∙ c .before .x .given .1))
+    (λ c. emitted-refused _ _ _ _ (sym (c .before .before .before .check-segment .ensures) ∙ c .before .x .given .1))
     (λ c. search needs)
     (λ c κs. omega (arith, readable c .long))
     (λ c κs. known c .long)
     (λ c. omega (arith, bloom-within _ _ _ (known (c .before))))
     (λ c. omega arith)
-    (λ c. omega (arith, bloom-within _ _ _ (known (c .before))))
-    (λ c. omega (arith, bloom-within _ _ _ (known (c .before))))
+    (λ c. omega (arith, bloom-within _ _ _ (known (c .before .before))))
+    (λ c. omega (arith, bloom-within _ _ _ (known (c .before .before))))
     (λ c. search needs)
     (λ c. search needs)
-    (λ c κs. let of = c .before .before .before .before .before in
+    (λ c κs. let of = c .before .before .before .before .before .before in
     (v3-shaped, (read-lines _ _ _ (known of) (bytes (of .before)) _ _, known of .laid .layout .few)))
     (λ c. search needs)
-    (λ c. let made = c .before .before .before .before .before .before .before in let read = made .before in
-    left-written _ _ _ _ _ _ (accepted (read .before)) (read-form _ _ _ _ _ _ (read .of .ensures) (made .heading-of .ensures)) (c .before .before .put-tidy .ensures)))
+    (λ c. let made = c .before .before .before .before .before .before .before .before in let read = made .before in
+    emitted-written _ _ _ _ _ _ (accepted (read .before)) (read-form _ _ _ _ _ _ (read .of .ensures) (made .heading-of .ensures)) (c .before .before .put-tidy .ensures)))

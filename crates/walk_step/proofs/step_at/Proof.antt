@@ -16,17 +16,17 @@ known : (c : tie.After-of)
     → let start = c .before .before .before .before .before .before in Readable v3 (start .args .segment .now) (c .of .result)
 known c = read _ _ _ (c .of .ensures) (passed (c .before))
 
-nth : tie.Need-nth-requires
-nth c κs =
-    let read = c .before in
+row-inside : tie.Need-nth-record-requires
+row-inside c κs =
+    let read = c .before .before in
     let laid = known read .laid in
     (laid .shaped, record-inside laid (read .before .before .before .before .before .before .args .at) (omega arith))
 
 gives-row : tie.Need-returns-3
 gives-row c =
-    let read = c .before .before in
+    let read = c .before .before .before in
     let said = read .before .before .before in
-    gives _ _ (said .check .result) (said .check .ensures) _ (read .before .enum-told .given .1) _ (read .of .ensures) _ (omega arith) (c .nth .ensures)
+    gives _ _ (said .check .result) (said .check .ensures) _ (read .before .enum-told .given .1) _ (read .of .ensures) _ (omega arith) (c .nth-record .ensures)
 
 pub step-at-spec : {M : Type 1} → statement M
 step-at-spec =
@@ -37,6 +37,6 @@ step-at-spec =
     (λ c. stops _ _ (c .before .before .before .check .result) (c .before .before .before .check .ensures) _ _ (c .before .r .given .1))
     (λ c. search needs)
     (λ c κs. omega (arith, passed c .long))
-    (λ c. ends _ _ (c .before .before .before .before .check .result) (c .before .before .before .before .check .ensures) _ (c .before .before .enum-told .given .1) _ (c .before .of .ensures) (omega arith))
-    nth
+    (λ c. ends _ _ (c .before .before .before .before .before .check .result) (c .before .before .before .before .before .check .ensures) _ (c .before .before .before .enum-told .given .1) _ (c .before .before .of .ensures) (omega arith))
+    row-inside
     gives-row)

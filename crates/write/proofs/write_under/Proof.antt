@@ -3,7 +3,7 @@ use mathlib.Core.Path.{sym, _∙_}
 use borrow.Author.Needs.{needs}
 use Rattle.segment.specs.Format.{v3}
 use Rattle.segment.proofs.Shapes.{v3-shaped}
-use Rattle.put_tidy.proofs.Left.{left-refused, left-written}
+use Rattle.put_tidy.proofs.EmittedAfter.{emitted-refused, emitted-written}
 use Rattle.write.proofs.RequestItems.{entry-lines, few-entries, same-form}
 use Rattle.write.proofs.write_under.Statement.{statement}
 use Rattle.write.proofs.write_under.Tie as tie
@@ -14,7 +14,7 @@ write-under-spec =
     (tie.spec
     (λ c κs. search needs)
     (λ c. search needs)
-    (λ c. left-refused _ _ _ _ (sym (c .before .before .before .check-request .ensures) ∙ c .before .x .given .1))
+    (λ c. emitted-refused _ _ _ _ (sym (c .before .before .before .check-request .ensures) ∙ c .before .x .given .1))
     (λ c. search needs)
     (λ c κs.
     let said = c .before .before .before in
@@ -25,4 +25,4 @@ write-under-spec =
     (λ c. search needs)
     (λ c.
     let told = c .before .before .before .before in
-    left-written _ _ _ _ _ _ (sym (told .before .before .check-request .ensures) ∙ told .enum-told .given .1) (same-form _ _ _ _ _ _) (c .before .before .put-tidy .ensures)))
+    emitted-written _ _ _ _ _ _ (sym (told .before .before .check-request .ensures) ∙ told .enum-told .given .1) (same-form _ _ _ _ _ _) (c .before .before .put-tidy .ensures)))

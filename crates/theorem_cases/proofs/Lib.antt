@@ -1,0 +1,4 @@
+pub mod Sealed
+pub mod AnyHeading
+pub mod PCases
+pub mod Members

@@ -1,0 +1,2 @@
+pub mod PCases
+pub mod Members

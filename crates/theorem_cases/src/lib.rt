@@ -1,0 +1,1 @@
+// No code: the P cases are statements about the definitions of `crates/segment`.

@@ -1,0 +1,1 @@
+// No code: programs that the promises rule out.

@@ -1,0 +1,4 @@
+pub mod Answering
+pub mod Entering
+pub mod Demands
+pub mod Members

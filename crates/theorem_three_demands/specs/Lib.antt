@@ -1,0 +1,3 @@
+pub mod Answering
+pub mod Demands
+pub mod Members
