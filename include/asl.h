@@ -3,7 +3,8 @@
  *
  * A segment is accepted whole, or refused with a number and a place. Every call makes the whole check itself, so no
  * answer is ever drawn from a damaged segment. docs/C.md has an example that can be compiled, and says how a program
- * moves here from version 1. docs/FORMAT.md says which field earns which refusal.
+ * moves here from version 1. docs/SERVICES.md says what each call answers and refuses, docs/FORMAT.md which field earns
+ * which refusal.
  *
  * Call asl_check, asl_look_up, asl_step, asl_tidy_length, asl_tidy and asl_write. They are inline and stand over the
  * library's own symbols, asl_raw_.., which take bare bytes and numbers.
@@ -99,7 +100,7 @@ enum asl_refusal {
     ASL_REFUSED_KEY = 17         /* look up: hash id unknown, or digest length not the table's */
 };
 
-/* The refusal's name as in document 01, "ok" for 0, and "unknown" for what is no refusal's number. */
+/* The refusal's name (docs/SERVICES.md, "Refusals"), "ok" for 0, and "unknown" for what is no refusal's number. */
 static inline const char *asl_refusal_name(uint64_t number) {
     switch (number) {
     case ASL_OK: return "ok";

@@ -1,6 +1,6 @@
-// The raw calls of asl.h in plain C, written from document 01 alone: a yardstick for the speed of the library, and a
-// third opinion beside it and tests/independent/asl.py. It allocates where the library does not, and aborts where there
-// is no memory, since document 01 has no refusal for that.
+// The raw calls of asl.h in plain C, written without a look at the crates: a yardstick for the speed of the library, and
+// a third opinion beside it and tests/independent/asl.py. It allocates where the library does not, and aborts where there
+// is no memory, since there is no refusal for that.
 //
 // NAME gives the functions their names: those of asl.h by default, so that this links in the library's place. Compiled
 // with -D'NAME(x)=plain_##x' it links beside it. NAME(crc64) is its checksum, which takes eight bytes at a step, or one

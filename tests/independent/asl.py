@@ -1,9 +1,10 @@
-"""Document 01 in Python: a second opinion on check, look up, write, tidy, the walk's step and the
-listing; and on the length of the tidy form, which C asks for before it lends an output.
+"""The rules of docs/FORMAT.md and the services of docs/SERVICES.md in Python: a second opinion on
+check, look up, write, tidy, the walk's step and the listing; and on the length of the tidy form,
+which C asks for before it lends an output.
 
-Written from the paper alone and in its order, to be read beside it. Numbers are Python's whole
-numbers, so nothing here is modulo anything. Every public function answers with the paper's
-refusal number (0 when there is none) and its place.
+Written without a look at the crates, from the paper that decided the rules (README.md, "What
+decides") and in its order. Numbers are Python's whole numbers, so nothing here is modulo anything.
+Every public function answers with the refusal's number (0 when there is none) and its place.
 """
 
 import struct

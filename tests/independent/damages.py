@@ -3,7 +3,7 @@
 A damage changes the patient's bytes and gives a name saying what was done, or None where it does
 not apply (no records, say). Places are those of the segment while it was whole, so that several
 damages can be done one after another. Not every damage breaks a rule: each side of an edge is
-tried, and asl.py says what the paper says of it.
+tried, and asl.py says what comes of it.
 """
 
 from fields import (EXTENT_FIELDS, EXTENT_SIZE, FOOTER_FIELDS, HEADER_FIELDS, HEADER_SIZE,

@@ -1,4 +1,4 @@
-"""Every field of document 01's four structures by name: its place and its size in bytes.
+"""Every field of the four structures by name: its place and its size in bytes.
 
 asl.py reads structures whole; what damages or builds files by hand uses this second table, so
 that a slip in one of them shows as a difference.

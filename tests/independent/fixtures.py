@@ -8,7 +8,7 @@ NN-name.asl is a segment under the table 1 -> 32, 7 -> 4; it is asked of check, 
 7, digest 0a0b0c0d), of tidy (65,536 bytes of room), of tidy length and of step (at record 0),
 which all answer NN. NN-name.args is JSON and says its service and all its arguments; `table_rest`
 are bytes after the table's last whole number, `found` and `fields` are how many bytes look up and
-step are lent for their answers. The numbers and places below are written by hand from the paper.
+step are lent for their answers. The numbers and places below are written by hand.
 """
 
 import json

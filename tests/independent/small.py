@@ -8,7 +8,7 @@ TABLE = asl.LISTING_TABLE
 # All numbers differ, so that a program that swaps two of them is noticed.
 HEADING = asl.Heading(shard=2, snapshot_min=3, snapshot_max=4, domain=5, seal_snapshot=6,
                       seal_time=7)
-# Case L as docs/FORMAT.md prints it: document 01 says its domain only, and the rest is 0 there.
+# Case L as docs/FORMAT.md prints it: what is not its domain is 0 there.
 PRINTED_HEADING = asl.Heading(0, 0, 0, 5, 0, 0)
 
 KEY_7C = bytes.fromhex("0a0b0c0c")
@@ -47,7 +47,7 @@ def one():
 
 
 def case_l(heading=HEADING):
-    """The paper's case L: 256 bytes."""
+    """Case L (docs/SERVICES.md, "Cases"): 256 bytes."""
     return in_order([live(KEY_7D, [(9, 64, 3)], visibility=1), gone(KEY_7E)], heading=heading)
 
 

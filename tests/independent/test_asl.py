@@ -1,4 +1,4 @@
-"""asl.py against the paper's own cases, and its checksum against liblzma's."""
+"""asl.py against docs/SERVICES.md, "Cases", and its checksum against liblzma's."""
 
 import lzma
 import random
@@ -169,7 +169,7 @@ class Walk(unittest.TestCase):
 
 class TidyAndListing(unittest.TestCase):
     def test_mixed_by_hand(self):
-        """The tidy form of the mixed sample, each part written down from the paper."""
+        """The tidy form of the mixed sample, each part written down by hand."""
         out = bytearray(b"\xaa" * 600)
         number, place, length = asl.tidy(small.TABLE, small.mixed(), out)
         # 4 records; 32 + 3 * 4 digest bytes, padded to 48; 2 + 1 + 3 extents.

@@ -110,7 +110,7 @@ class Fields(Commands):
         return [word for line in lines for word in (line[:1] if line[-1] == "FILE" else line[1:])]
 
     def test_each_refusal_has_its_fields(self):
-        table = PAGE[PAGE.index("### Which bytes to look at"):PAGE.index("### The order")]
+        table = PAGE[PAGE.index("## Which bytes to look at"):]
         begin = BEGIN.replace("K=1", "K=0").replace("echo $R", ":").strip()
         found, number = {}, None
         for named, command in re.findall(r"^\| (?:([0-9]+) )?\| `(.*?)` \|", table, re.MULTILINE):

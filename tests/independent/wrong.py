@@ -1,7 +1,7 @@
 """Deliberately wrong programs, to show that the comparison notices them.
 
-Each is asl.py, or case.py for the rules of the C side, with one function replaced: first the
-paper's "plausible programs that are wrong", then others. `PROGRAMS` maps a name to (the module,
+Each is asl.py, or case.py for the rules of the C side, with one function replaced: first those of
+docs/SERVICES.md, "Wrong programs", then others. `PROGRAMS` maps a name to (the module,
 the function's name, a maker that is given the right one and gives the wrong one).
 """
 
@@ -13,7 +13,7 @@ from askers import ask_here
 from fields import HEADER_FIELDS, RECORD_FIELDS, Places, get, put, seal
 
 
-# The paper's six ------------------------------------------------------------------------------
+# The six of docs/SERVICES.md -----------------------------------------------------------------
 
 def absent_when_damaged(look_up):
     def wrong(*arguments):

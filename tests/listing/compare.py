@@ -1,5 +1,5 @@
 """Runs the listing program (its command is the arguments) and compares what it writes, byte for byte, with the samples'
-listings, with the independent listing (tests/independent/asl.py), and with what document 01 says at the limits."""
+listings, with the independent listing (tests/independent/asl.py), and with what docs/SERVICES.md says at the limits."""
 
 import os
 import pathlib
