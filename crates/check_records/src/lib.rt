@@ -127,7 +127,7 @@ pub fn check_records(sh: Shape, pairs: &[u64], seg: &[u8], h: Header) -> Passed
     let mut largest: u8 = 0;
     let mut k = 0;
     while k < count {
-        let r = sh.nth_record(seg, first, k);
+        let r = record::nth_record(sh, seg, first, k);
         match check_record(sh, pairs, seg, h, r, record::place_of(sh, first, k)) {
             Verdict::Refused(x) => {
                 return Passed::Refused(x);

@@ -11,6 +11,7 @@ use list_place::Place;
 use offset::FileOffset;
 use segment::extent::Extent;
 use segment::header::Header;
+use segment::record;
 use segment::shape::Shape;
 
 // Where the listing goes on, and where in the output.
@@ -29,7 +30,7 @@ fn count_extents(sh: Shape, seg: &[u8], h: Header) -> u64
     let mut sum: u64 = 0;
     let mut k = 0;
     while k < count {
-        let r = sh.nth_record(seg, first, k);
+        let r = record::nth_record(sh, seg, first, k);
         sum += r.extent_count as u64;
         k += 1;
     }
@@ -49,7 +50,7 @@ fn put_record(sh: Shape, seg: &[u8], h: Header, k: usize, at: usize, out: &mut [
         };
     }
     let first = h.records_offset;
-    let r = sh.nth_record(seg, first, k);
+    let r = record::nth_record(sh, seg, first, k);
     let start = r.digest_offset.0 as usize;
     let stop = start + r.digest_length as usize;
     let end = list_record::put_record(k, r, &seg[start..stop], at, out);
@@ -80,7 +81,7 @@ fn put_extent(
         };
     }
     let first = h.records_offset;
-    let r = sh.nth_record(seg, first, k);
+    let r = record::nth_record(sh, seg, first, k);
     if r.extent_count as usize <= j {
         return Stop {
             next: Place::ExtentLine(k + 1, 0),

@@ -17,6 +17,7 @@ use answer::Verdict;
 use key::Kind;
 use key::head::Head;
 use segment::header::Header;
+use segment::record;
 use segment::record::Record;
 use segment::shape::Shape;
 
@@ -71,7 +72,7 @@ fn find(sh: Shape, seg: &[u8], hash: u64, digest: &[u8]) -> Found
             head,
             digest,
         ) {
-            return found(sh.nth_record(seg, first, k));
+            return found(record::nth_record(sh, seg, first, k));
         }
         k += 1;
     }

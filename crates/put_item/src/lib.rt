@@ -51,7 +51,7 @@ pub fn entry_of(kind: Kind, bytes: &[u8], list: &[u64], k: usize) -> Entry
     ensures { λ r. ⌜ r ≡ itemEntry kind (now (bytes .entry)) (now (list .entry)) k ⌝ }
 {
     match kind {
-        Kind::Records(first, sh) => entry_of_record(sh.nth_record(bytes, first, k)),
+        Kind::Records(first, sh) => entry_of_record(record::nth_record(sh, bytes, first, k)),
         Kind::Entries => Entry::at(list, k),
     }
 }

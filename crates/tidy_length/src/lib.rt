@@ -16,6 +16,7 @@ use answer::Written;
 use segment::extent::Extent;
 use segment::footer::Footer;
 use segment::header::Header;
+use segment::record;
 use segment::shape::Shape;
 
 // What the records come to: how many bytes their digests are, and how many extents they have.
@@ -33,7 +34,7 @@ fn sum_records(sh: Shape, seg: &[u8], h: Header) -> Sums
     let mut extents: u64 = 0;
     let mut k = 0;
     while k < h.record_count as usize {
-        let r = sh.nth_record(seg, first, k);
+        let r = record::nth_record(sh, seg, first, k);
         digests += r.digest_length as u64;
         extents += r.extent_count as u64;
         k += 1;

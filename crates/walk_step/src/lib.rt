@@ -5,6 +5,7 @@ ghost use Rattle.segment.specs.Walk.{stepped};
 ghost use Rattle.walk_step.specs.Steps.{turnOf};
 use answer::Verdict;
 use segment::header::Header;
+use segment::record;
 use segment::shape::Shape;
 use segment::step::Step;
 
@@ -30,7 +31,7 @@ fn step_at(pairs: &[u64], segment: &[u8], at: usize) -> Step
     if count <= at {
         return Step::Done;
     }
-    Step::Row(Shape::V3.nth_record(segment, first, at))
+    Step::Row(record::nth_record(Shape::V3, segment, first, at))
 }
 
 // A step with the place after it: one on after a record, else the same.

@@ -1,8 +1,8 @@
--- `segment::shape::Shape::record_at` meets its contract: field by field.
+-- `segment::record::Record::at` meets its contract: field by field.
 use Rattle.segment.specs.Format.{recordOf}
 use Rattle.segment.proofs.Shapes.{fields-inside, total-inside}
-use Rattle.segment.proofs.shape.Shape.record_at.Statement.{statement}
-use Rattle.segment.proofs.shape.Shape.record_at.Tie as tie
+use Rattle.segment.proofs.record.Record.at.Statement.{statement}
+use Rattle.segment.proofs.record.Record.at.Tie as tie
 
 returns : tie.Need-returns
 unfolding recordOf
@@ -36,8 +36,8 @@ returns c =
       flags = c0 .flags .ensures j;
     }
 
-pub record-at-spec : {M : Type 1} → statement M
-record-at-spec =
+pub at-spec : {M : Type 1} → statement M
+at-spec =
     tie.close
     (tie.spec
     (λ c κs. search fields-inside)
