@@ -24,6 +24,7 @@ static struct bytes read_file(const char *path) {
     FILE *file = open_file(path);
     size_t size = fread(content, 1, sizeof content, file);
     fclose(file);
+    if (size == sizeof content) give_up("it is too long to be read here", path);
     return (struct bytes){content, size};
 }
 
@@ -42,8 +43,20 @@ static void fixture(struct bytes segment, const char *service, struct wanted w) 
     } else if (strcmp(service, "tidy") == 0) {
         tidy(TABLE, segment, ROOM, w);
     } else {
-        give_up("expected.txt has a service for it that is not known", name);
+        give_up("expected.txt has a service for it that is lent no segment", name);
     }
+}
+
+static int is_known(const char *service) {
+    static const char *const known[] = {"check", "look-up", "step", "tidy-length", "tidy", "write"};
+    for (size_t i = 0; i < sizeof known / sizeof *known; i++)
+        if (strcmp(service, known[i]) == 0) return 1;
+    return 0;
+}
+
+static int ends_with(const char *word, const char *end) {
+    size_t all = strlen(word), last = strlen(end);
+    return all >= last && strcmp(word + all - last, end) == 0;
 }
 
 // The segments among the fixtures. Argument lists are left to the comparison of tests/independent.
@@ -56,7 +69,9 @@ static void fixtures(const char *folder) {
         if (line[0] == '#') continue;
         if (sscanf(line, "%199s %19s %" SCNu64 " %" SCNu64 " %c", file, service, &number, &place, &more) != 4)
             give_up("this is not a file, a service, a number and a place", line);
-        if (!strstr(file, ".asl")) continue;
+        if (!is_known(service)) give_up("this names a service that is not known", line);
+        if (ends_with(file, ".args")) continue;
+        if (!ends_with(file, ".asl")) give_up("this names a file that is no segment and no argument list", line);
         calling("fixture %s", file);
         snprintf(path, sizeof path, "%s/%s", folder, file);
         fixture(read_file(path), service, refused(number, place));
@@ -432,7 +447,7 @@ static void too_large(void) {
 
 // Every number that an entry point can give was given, and no other. Each can answer as well, which is 0.
 static int can_give(int service, int number) {
-    static const int possible[SERVICES][20] = {
+    static const int possible[SERVICES][NUMBERS] = {
         [CHECK] = {1, 2, 3, 4, 5, 6, 7, 8, 9, 10, 11, 12, 14},
         [LOOK_UP] = {1, 2, 3, 4, 5, 6, 7, 8, 9, 10, 11, 12, 13, 14, 17},
         [STEP] = {1, 2, 3, 4, 5, 6, 7, 8, 9, 10, 11, 12, 13, 14},

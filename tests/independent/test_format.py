@@ -20,7 +20,7 @@ def blocks(fence):
     return re.findall(rf"^```{fence}\n(.*?)^```$", PAGE, re.DOTALL | re.MULTILINE)
 
 
-MEND, BEGIN, VISIBILITIES = blocks("sh")
+MEND, BEGIN, VISIBILITIES, KEYS, EXTENTS = blocks("sh")
 
 
 def printed_bytes():
@@ -93,7 +93,7 @@ SHOWN = {
          " 5 0 0 0 1 0 0 0 0 0 0 0 0 0 0 0" " 5 5",
     "8": "7 4" " 208 208 8",
     "9": "216 1" " 0 216 1",
-    "10": "3" " 9 0 64 3",
+    "10": "3 0" " 9 0 64 3",
     "11": "1",
     "12": "7 0a 0b 0c 0d",
 }
@@ -123,6 +123,19 @@ class Fields(Commands):
 
     def test_visibilities(self):
         self.assertEqual(self.run_here(VISIBILITIES), b"0000112 1\n0000160 0\n")
+
+    def test_keys(self):
+        self.assertEqual(self.run_here("K=1\n" + KEYS), b"0 7 0a 0b 0c 0d\n1 7 0a 0b 0c 0e\n")
+
+    def test_keys_that_stand_twice(self):
+        (self.folder / "FILE").write_bytes((samples.FOLDER / "refused-duplicate.asl").read_bytes())
+        place = asl.listing((self.folder / "FILE").read_bytes()).split()[-1]
+        lines = self.run_here(f"K={place}\n{KEYS}").decode().splitlines()
+        keys = [line.split(" ", 1)[1] for line in lines]
+        self.assertEqual(keys.count(keys[-1]), 2)
+
+    def test_extents_when_tidy(self):
+        self.assertEqual(self.run_here(EXTENTS), b"1\n")
 
 
 if __name__ == "__main__":

@@ -24,7 +24,7 @@ module _ (kind : Kind) (bytes list : List ℕ) (k : ℕ) where
   record-stands first sh e i = subst (λ (q : Kind). Stands q bytes list k) e (i .stands)
 
   -- the fields that every version has lie in it
-  pub record-fields : (first : FileOffset) (sh : Shape) (at : ℕ) → kind ≡ Records first sh → Item kind bytes list k → at ≡ recordFrom sh (first .0) k → at + 48 ≤ length bytes
+  pub record-fields : (first : FileOffset) (sh : Shape) (at : ℕ) → kind ≡ Records first sh → Item kind bytes list k → at ≤ recordFrom sh (first .0) k → at + 48 ≤ length bytes
   record-fields first sh at e i q =
       let s = record-stands first sh e i in
       omega (arith, s .inside, shaped-least sh (s .shaped))

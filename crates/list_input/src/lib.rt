@@ -17,7 +17,7 @@ use list_text::LONGEST;
 const MOST: usize = 65536;
 
 // So many bytes of an input tell what is written of it: one more than is listed, to notice a longer one.
-pub const ENOUGH: usize = 65537;
+pub const ENOUGH: usize = MOST + 1;
 
 // The line of a longer input, which stands at the first place.
 fn put_long(place: Place, out: &mut [u8]) -> Stop

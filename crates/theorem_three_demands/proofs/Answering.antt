@@ -87,7 +87,7 @@ use Rattle.theorem_demands.proofs.Writing.{write-refused-iff}
 
 -- ---- the table's numbers and places
 
-in-table : (q : Rule) → ruleNumber q ≤ 17
+pub in-table : (q : Rule) → (1 ≤ ruleNumber q) × (ruleNumber q ≤ 17)
 in-table Size = omega arith
 in-table Magic = omega arith
 in-table Version = omega arith
@@ -108,10 +108,10 @@ in-table KeyWrong = omega arith
 
 module _ {n : ℕ} (q : Rule) where
   pub nowhere : ofRecord (ruleNumber q) ≡ false → PlacedAmong n (refused (refusal q 0))
-  nowhere f = record { numbered = in-table q; of-record = λ e. absurd (true≢false (sym e ∙ f)); otherwise = λ e. refl }
+  nowhere f = record { numbered = in-table q .1; of-record = λ e. absurd (true≢false (sym e ∙ f)); otherwise = λ e. refl }
 
   among : {p : ℕ} → ofRecord (ruleNumber q) ≡ true → p < n → PlacedAmong n (refused (refusal q p))
-  among t l = record { numbered = in-table q; of-record = λ e. l; otherwise = λ e. absurd (true≢false (sym t ∙ e)) }
+  among t l = record { numbered = in-table q .1; of-record = λ e. l; otherwise = λ e. absurd (true≢false (sym t ∙ e)) }
 
 -- ---- the place of a refusal that is given
 

@@ -27,7 +27,7 @@ use Rattle.theorem_demands.proofs.Writing.{written-iff, write-keeps, write-back
 use Rattle.theorem_tidiness.proofs.Tidiness.{tidy-iff, kept-is-tidy, tidy-comes-back}
 use Rattle.theorem_three_demands.specs.Answering.{IsRefused}
 use Rattle.theorem_three_demands.specs.Demands.{DemandOne, DemandTwo, CanTidy, DemandThree}
-use Rattle.theorem_three_demands.proofs.Answering.{check-placed, look-up-placed, stepped-stays, tidy-length-placed, tidy-leaves, write-leaves}
+use Rattle.theorem_three_demands.proofs.Answering.{in-table, check-placed, look-up-placed, stepped-stays, tidy-length-placed, tidy-leaves, write-leaves}
 use Rattle.theorem_three_demands.proofs.Entering.{bits-placed, reply-leaves, step-leaves, sealed-leaves}
 
 length-answered : (l : Length) → lengthAnswer l .number ≡ 0
@@ -52,6 +52,7 @@ demand-one pairs table s key at q out = record {
   tidy = tidy-leaves pairs s out;
   write = write-leaves pairs q out;
   lengthIn = λ listed hash. length-answered (lengthIn listed hash);
+  number = λ r. in-table (r .0);
   rawCheck = bits-placed _ (checkOf (tableIn table) s) 0 (check-placed (tableIn table) s);
   rawLookUp =
       let p = look-up-placed (tableIn table) s key in

@@ -7,6 +7,8 @@ use mathlib.Core.Logic.{_↔_}
 use mathlib.Core.List.{List, []}
 use lib.ListN.{length}
 use Rattle.numbers.specs.Numbers.{Bytes}
+use Rattle.answer.specs.declared.Refusal.{Refusal}
+use Rattle.answer.specs.Answers.{numberOf}
 use Rattle.segment.specs.Keys.{Key, allowsKey}
 use Rattle.segment.specs.Format.{v3, fileLimit, headerOf, recordCount}
 use Rattle.table.specs.Table.{goodTable}
@@ -45,6 +47,8 @@ pub record DemandOne (pairs table s : List ℕ) (key : Key) (at : ℕ) (q : Requ
   pub write : Leaves (entryCount (q .entries)) (writeOf pairs q out) out
   -- `length_in` refuses nothing
   pub lengthIn : (listed : List Pair) (hash : ℕ) → lengthOf listed hash .number ≡ 0
+  -- `number` of any refusal; `place`, `start` and `asl_raw_version` refuse nothing and write to nothing
+  pub number : (r : Refusal) → (1 ≤ numberOf r) × (numberOf r ≤ 17)
   -- `asl_raw_check`, .. `asl_raw_write`
   pub rawCheck : PlacedAmong (recordCount (headerOf s)) (saidIn (bitsOf (checkOf (tableIn table) s) 0))
   pub rawLookUp : LeavesAt (recordCount (headerOf s)) (replyLeft (replyOf (lookedUp (tableIn table) s key)) out) out

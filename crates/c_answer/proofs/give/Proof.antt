@@ -12,7 +12,7 @@ give-spec =
     (tie.spec
     (λ c. omega arith)
     (λ c κs. lit< tt)
-    (λ c. given-room _ _ _ _ (c .before .if1 .taken) (c .refuse .ensures))
+    (λ c. given-room _ _ _ _ (omega arith) (c .refuse .ensures))
     (λ c κs. c .before .if1 .left)
     (λ c κs. (lit< tt, c .before .before .before .before .before .before .before .pre .0))
     (λ c. search needs)

@@ -11,7 +11,7 @@ hash-of-spec =
     (tie.spec
     (λ c. search needs)
     (λ c κs. let s = record-stands _ _ _ _ _ _ (c .before .kind .given .1) (c .before .before .before .before .before .pre) in omega (arith, s .inside))
-    (λ c κs. record-fields _ _ _ _ _ _ _ (c .before .before .kind .given .1) (c .before .before .before .before .before .before .pre) (c .begins .ensures))
+    (λ c κs. record-fields _ _ _ _ _ _ _ (c .before .before .kind .given .1) (c .before .before .before .before .before .before .pre) (omega (arith, c .begins .ensures)))
     (λ c. search needs)
     (λ c. search needs)
     (λ c κs. let s = entry-stands _ _ _ _ (cc) (c .before .before .before .before .pre) in omega arith)
