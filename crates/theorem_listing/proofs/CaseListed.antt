@@ -21,26 +21,26 @@ use Rattle.theorem_cases.proofs.AnyHeading.{cut, cut-fits, form-cut}
 use Rattle.list_digits.specs.Digits.{decimalIn, decimal, hex}
 use Rattle.list_columns.specs.Listing.{countLine, recordLine, extentLine, recordLines, extentLines, extentSection, listing, tableListed, written}
 use Rattle.list_input.proofs.PartLaws.{written-listed}
-use Rattle.theorem_listing.specs.FiveLines.{meaningL, fiveLines}
+use Rattle.theorem_listing.specs.FiveLines.{meaningUnder, fiveLines}
 
-pub case-l-listed : (t : Heading) → listing (meaningL t) ≡ fiveLines
+pub case-l-listed : (t : Heading) → listing (meaningUnder t) ≡ fiveLines
 unfolding listing countLine recordLines recordLine extentSection extentLines extentLine decimal decimalIn hex extentTotal sumLengths
 case-l-listed t = refl
 
 -- ---- the file, of a heading whose numbers fit their fields
 
 module _ (t : Heading) (w : HeadingWritable t) where
-  tidies : Tidies v3 tableListed (meaningL t)
+  tidies : Tidies v3 tableListed (meaningUnder t)
   unfolding allows
   tidies = case-l-tidies tableListed t refl w
 
   accepted : checked tableListed (tidyOfRows t caseL) ≡ Accepted
   unfolding goodTable goodPairs stands
-  accepted = checked-iff tableListed (tidyOfRows t caseL) refl .1 (tidy-meets v3 v3-shaped tableListed (meaningL t) tidies)
+  accepted = checked-iff tableListed (tidyOfRows t caseL) refl .1 (tidy-meets v3 v3-shaped tableListed (meaningUnder t) tidies)
 
-  means : meaningOf v3 (tidyOfRows t caseL) ≡ meaningL t
+  means : meaningOf v3 (tidyOfRows t caseL) ≡ meaningUnder t
   unfolding sortBy insert lexLeq
-  means = tidy-means v3 v3-shaped tableListed (meaningL t) tidies
+  means = tidy-means v3 v3-shaped tableListed (meaningUnder t) tidies
 
   fitting-written : written (tidyOfRows t caseL) ≡ fiveLines
   fitting-written =
