@@ -1,11 +1,13 @@
 -- An answer's numbers settle it: two refusals with one number and one place are equal, and so are two answers of a service
 -- that say the same in numbers. Each by a function that takes the numbers back.
 -- Assumes nothing.
-use Prim.Native.Nat.{ℕ, zero, suc}
+use Prim.Native.Nat.{ℕ, zero, suc, _≤_, _<_}
 use mathlib.Core.Path.{_≡_, refl, sym, ap, ap₂, _∙_}
 use mathlib.Core.Bool.{false, cond}
 use mathlib.Core.List.{List, [], _∷_}
-use lib.Dec.{eqb}
+use native.Mathlib.Omega.{arith}
+use borrow.Author.Tests.{ne-eqb}
+use lib.Dec.{eqb, lit<}
 use lib.ListN.{length, getD}
 use Rattle.answer.specs.declared.Refusal.{Refusal}
 use Rattle.answer.specs.declared.Rule.{Rule}
@@ -48,26 +50,29 @@ numbered : List Rule → ℕ → Rule
 numbered [] n = Size
 numbered (r ∷ rs) n = cond (eqb (ruleNumber r) n) r (numbered rs n)
 
--- a rule's number is its own, and none is that of an answer
-ruleNumber-one : (r : Rule) → (numbered rules (ruleNumber r) ≡ r) × (eqb (ruleNumber r) 0 ≡ false)
+-- a rule's number is its own, and one of the table's; 0 is that of an answer
+ruleNumber-one : (r : Rule) → (numbered rules (ruleNumber r) ≡ r) × (0 < ruleNumber r) × (ruleNumber r < 18)
 unfolding rules numbered
-ruleNumber-one Size = (refl, refl)
-ruleNumber-one Magic = (refl, refl)
-ruleNumber-one Version = (refl, refl)
-ruleNumber-one Header = (refl, refl)
-ruleNumber-one Layout = (refl, refl)
-ruleNumber-one Checksum = (refl, refl)
-ruleNumber-one Record = (refl, refl)
-ruleNumber-one Digest = (refl, refl)
-ruleNumber-one Extents = (refl, refl)
-ruleNumber-one Total = (refl, refl)
-ruleNumber-one Visibility = (refl, refl)
-ruleNumber-one Duplicate = (refl, refl)
-ruleNumber-one Room = (refl, refl)
-ruleNumber-one Table = (refl, refl)
-ruleNumber-one ListEnd = (refl, refl)
-ruleNumber-one Large = (refl, refl)
-ruleNumber-one Key = (refl, refl)
+ruleNumber-one Size = (refl, lit< tt, lit< tt)
+ruleNumber-one Magic = (refl, lit< tt, lit< tt)
+ruleNumber-one Version = (refl, lit< tt, lit< tt)
+ruleNumber-one Header = (refl, lit< tt, lit< tt)
+ruleNumber-one Layout = (refl, lit< tt, lit< tt)
+ruleNumber-one Checksum = (refl, lit< tt, lit< tt)
+ruleNumber-one Record = (refl, lit< tt, lit< tt)
+ruleNumber-one Digest = (refl, lit< tt, lit< tt)
+ruleNumber-one Extents = (refl, lit< tt, lit< tt)
+ruleNumber-one Total = (refl, lit< tt, lit< tt)
+ruleNumber-one Visibility = (refl, lit< tt, lit< tt)
+ruleNumber-one Duplicate = (refl, lit< tt, lit< tt)
+ruleNumber-one Room = (refl, lit< tt, lit< tt)
+ruleNumber-one Table = (refl, lit< tt, lit< tt)
+ruleNumber-one ListEnd = (refl, lit< tt, lit< tt)
+ruleNumber-one Large = (refl, lit< tt, lit< tt)
+ruleNumber-one Key = (refl, lit< tt, lit< tt)
+
+pub in-table : (r : Rule) → (1 ≤ ruleNumber r) × (ruleNumber r ≤ 17)
+in-table r = omega (arith, ruleNumber-one r .1, ruleNumber-one r .2)
 
 pub refusalOf : ℕ → ℕ → Refusal
 refusalOf n p = refusal (numbered rules n) p
@@ -80,8 +85,8 @@ pub refusal-settled : (q r : Refusal) → numberOf q ≡ numberOf r → placeOf 
 refusal-settled q r e f = sym (refusal-back q) ∙ ap₂ refusalOf e f ∙ refusal-back r
 
 -- no refusal has the number of an answer
-not-answered : (r : Refusal) → eqb (numberOf r) 0 ≡ false
-not-answered r = ruleNumber-one (r .0) .1
+pub not-answered : (r : Refusal) → eqb (numberOf r) 0 ≡ false
+not-answered r = ne-eqb (numberOf r) 0 (λ e. omega (arith, in-table (r .0)))
 
 -- a service's answer from its numbers: where the number is 0, what the values make of it
 unfoldable pub taken : {A : Type 0} → (Refusal → A) → (List ℕ → A) → Answer → A

@@ -2,36 +2,17 @@
 -- Assumes nothing.
 use Prim.Native.Nat.{ℕ, _+_, _*_, _≤_, _<_}
 use mathlib.Core.Path.{_≡_, refl, sym, ap, subst, _∙_}
-use mathlib.Core.Bool.{false}
 use mathlib.Core.List.{List, [], _∷_, _++_, append-nil, append-assoc}
 use native.Mathlib.Numerals.{add-one}
 use native.Mathlib.Omega.{arith}
-use lib.Dec.{eqb, lit<}
+use lib.Dec.{lit<}
 use lib.ListN.{length, getD, take, replicate, length-append}
 use lib.Seq.{take-suc, take-all, length-take-le}
 use Rattle.numbers.specs.Numbers.{bytesOf, put}
 use Rattle.numbers.proofs.NumberLaws.{length-bytesOf, put-put, length-put}
 use Rattle.numbers.proofs.Copies.{copying-start}
 use Rattle.answer.specs.declared.Rule.{Rule}
-use Rattle.answer.specs.declared.Rule.the-variants.{
-  Size,
-  Magic,
-  Version,
-  Header,
-  Layout,
-  Checksum,
-  Record,
-  Digest,
-  Extents,
-  Total,
-  Visibility,
-  Duplicate,
-  Room,
-  Table,
-  List as ListEnd,
-  Large,
-  Key,
-}
+use Rattle.answer.specs.declared.Rule.the-variants.{Room}
 use Rattle.answer.specs.declared.Refusal.{Refusal}
 use Rattle.answer.specs.declared.Source.{Source}
 use Rattle.answer.specs.declared.Source.the-variants.{None, Domain}
@@ -41,6 +22,7 @@ use Rattle.answer.specs.declared.Found.the-variants.{Absent, Gone, Present, Ref
 use Rattle.answer.specs.declared.Written.{Written}
 use Rattle.answer.specs.declared.Written.the-variants.{Done, Refused as NotWritten}
 use Rattle.answer.specs.Answers.{ruleNumber, refusal, numberOf, placeOf, refused, writtenAnswer}
+use Rattle.answer.proofs.Settled.{in-table, not-answered}
 use Rattle.lists.proofs.Tests.{tests}
 use Rattle.c_answer.specs.declared.Reply.{Reply}
 use Rattle.c_answer.specs.Boundary.{
@@ -114,23 +96,7 @@ state-small (Refused r) = lit< tt
 
 -- a refusal's number has a byte
 pub rule-small : (q : Rule) → ruleNumber q < 256
-rule-small Size = lit< tt
-rule-small Magic = lit< tt
-rule-small Version = lit< tt
-rule-small Header = lit< tt
-rule-small Layout = lit< tt
-rule-small Checksum = lit< tt
-rule-small Record = lit< tt
-rule-small Digest = lit< tt
-rule-small Extents = lit< tt
-rule-small Total = lit< tt
-rule-small Visibility = lit< tt
-rule-small Duplicate = lit< tt
-rule-small Room = lit< tt
-rule-small Table = lit< tt
-rule-small ListEnd = lit< tt
-rule-small Large = lit< tt
-rule-small Key = lit< tt
+rule-small q = omega (arith, in-table q)
 
 number-small : (f : Found) → replyOf f .number < 256
 unfolding replyOf
@@ -158,29 +124,9 @@ pub settled-done : (w : Written) (n b : ℕ) → w ≡ Done n → b ≡ answerBi
 unfolding bitsOf
 settled-done w n b e g = rw e g
 
--- a refusal's number is not 0
-rule-some : (q : Rule) → eqb (ruleNumber q) 0 ≡ false
-rule-some Size = refl
-rule-some Magic = refl
-rule-some Version = refl
-rule-some Header = refl
-rule-some Layout = refl
-rule-some Checksum = refl
-rule-some Record = refl
-rule-some Digest = refl
-rule-some Extents = refl
-rule-some Total = refl
-rule-some Visibility = refl
-rule-some Duplicate = refl
-rule-some Room = refl
-rule-some Table = refl
-rule-some ListEnd = refl
-rule-some Large = refl
-rule-some Key = refl
-
 pub refused-is : (r : Refusal) (value : ℕ) → refusedBits r ≡ bitsOf (refused r) value
 unfolding bitsOf
-refused-is r value = rw (rule-some (r .0))
+refused-is r value = rw (not-answered r)
 
 pub settled-refused : (w : Written) (r : Refusal) (b : ℕ) → w ≡ NotWritten r → b ≡ refusedBits r → b ≡ bitsOf (writtenAnswer w) (firstValue (writtenAnswer w .values))
 settled-refused w r b e g = rw e (g ∙ refused-is r 0)

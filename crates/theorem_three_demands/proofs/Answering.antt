@@ -35,6 +35,7 @@ use Rattle.answer.specs.declared.Found.the-variants.{Absent, Gone, Present, Ref
 use Rattle.answer.specs.declared.Written.{Written}
 use Rattle.answer.specs.declared.Written.the-variants.{Done, Refused as NotWritten}
 use Rattle.answer.specs.Answers.{ruleNumber, refusal, answered, refused, checkAnswer, foundAnswer, writtenAnswer}
+use Rattle.answer.proofs.Settled.{in-table}
 use Rattle.segment.specs.declared.entry.Entry.{Entry}
 use Rattle.segment.specs.declared.step.Step.{Step}
 use Rattle.segment.specs.declared.step.Step.the-variants.{Row, Done as NoRow, Refused as NoStep}
@@ -86,25 +87,6 @@ use Rattle.theorem_demands.proofs.Tidying.{tidy-refused-iff, length-refused}
 use Rattle.theorem_demands.proofs.Writing.{write-refused-iff}
 
 -- ---- the table's numbers and places
-
-pub in-table : (q : Rule) → (1 ≤ ruleNumber q) × (ruleNumber q ≤ 17)
-in-table Size = omega arith
-in-table Magic = omega arith
-in-table Version = omega arith
-in-table Header = omega arith
-in-table Layout = omega arith
-in-table Checksum = omega arith
-in-table Record = omega arith
-in-table Digest = omega arith
-in-table Extents = omega arith
-in-table Total = omega arith
-in-table Visibility = omega arith
-in-table Duplicate = omega arith
-in-table Room = omega arith
-in-table Table = omega arith
-in-table ListEnd = omega arith
-in-table Large = omega arith
-in-table KeyWrong = omega arith
 
 module _ {n : ℕ} (q : Rule) where
   pub nowhere : ofRecord (ruleNumber q) ≡ false → PlacedAmong n (refused (refusal q 0))

@@ -6,6 +6,7 @@ use mathlib.Core.List.{List, []}
 use Rattle.answer.specs.declared.Found.{Found}
 use Rattle.answer.specs.declared.Found.the-variants.{Absent, Gone, Present, Refused as NotFound}
 use Rattle.answer.specs.Answers.{foundAnswer}
+use Rattle.answer.proofs.Settled.{in-table}
 use Rattle.table_pairs.specs.declared.Length.{Length}
 use Rattle.table_pairs.specs.declared.Length.the-variants.{Known, Unknown}
 use Rattle.table_pairs.specs.Pairs.{lengthIn, lengthAnswer, lengthOf}
@@ -27,7 +28,7 @@ use Rattle.theorem_demands.proofs.Writing.{written-iff, write-keeps, write-back
 use Rattle.theorem_tidiness.proofs.Tidiness.{tidy-iff, kept-is-tidy, tidy-comes-back}
 use Rattle.theorem_three_demands.specs.Answering.{IsRefused}
 use Rattle.theorem_three_demands.specs.Demands.{DemandOne, DemandTwo, CanTidy, DemandThree}
-use Rattle.theorem_three_demands.proofs.Answering.{in-table, check-placed, look-up-placed, stepped-stays, tidy-length-placed, tidy-leaves, write-leaves}
+use Rattle.theorem_three_demands.proofs.Answering.{check-placed, look-up-placed, stepped-stays, tidy-length-placed, tidy-leaves, write-leaves}
 use Rattle.theorem_three_demands.proofs.Entering.{bits-placed, reply-leaves, step-leaves, sealed-leaves}
 
 length-answered : (l : Length) → lengthAnswer l .number ≡ 0
