@@ -1,10 +1,10 @@
 /*
- * asl.h: check, look up, walk, tidy and write ASL index segments, version 3. Version 2 of the interface.
+ * asl.h: check, look up, walk, tidy and write ASL index segments. Version 3 of the interface.
  *
  * A segment is accepted whole, or refused with a number and a place. Every call makes the whole check itself, so no
  * answer is ever drawn from a damaged segment. docs/C.md has an example that can be compiled, and says how a program
- * moves here from version 1. docs/SERVICES.md says what each call answers and refuses, docs/FORMAT.md which field earns
- * which refusal.
+ * moves here from version 2, and from version 1. docs/SERVICES.md says what each call answers and refuses,
+ * docs/FORMAT.md which field earns which refusal.
  *
  * Call asl_check, asl_look_up, asl_step, asl_tidy_length, asl_tidy and asl_write. They are inline and stand over the
  * library's own symbols, asl_raw_.., which take bare bytes and numbers.
@@ -25,6 +25,8 @@
  * THREADS     The library has no state at all. Calls from any number of threads are safe as long as no thread changes
  *             a buffer that another thread's call is lent.
  * STACK       Every call needs less than 1 MiB of it.
+ * VERSIONS    The interface and the format of the segments are counted apart; that both are at 3 is chance. The format
+ *             (ASL_FORMAT_VERSION) is the same as in version 2 of the interface, and so are the segments accepted.
  */
 #ifndef ASL_H
 #define ASL_H
@@ -55,13 +57,13 @@ extern "C" {
 /* Versions ------------------------------------------------------------------------------------------------------- */
 
 /* Of this header. ASL_VERSION is one number, which #if can compare: major * 2^32 + minor * 2^16 + patch. */
-#define ASL_VERSION_MAJOR 2
+#define ASL_VERSION_MAJOR 3
 #define ASL_VERSION_MINOR 0
 #define ASL_VERSION_PATCH 0
 #define ASL_VERSION \
     (ASL_VERSION_MAJOR * UINT64_C(4294967296) + ASL_VERSION_MINOR * UINT64_C(65536) + ASL_VERSION_PATCH)
 
-/* Of the segments that the library reads and writes. */
+/* Of the segments that the library reads and writes, as it stands in them. It is counted apart from the above. */
 #define ASL_FORMAT_VERSION 3
 
 /* Sizes and limits ----------------------------------------------------------------------------------------------- */
@@ -78,29 +80,41 @@ extern "C" {
 
 /* Refusals ------------------------------------------------------------------------------------------------------- */
 
-/* The refusals' numbers. More may come in a later version, and they need not follow one another. */
+/*
+ * The refusals' numbers. More may come in a later version, and they do not all follow one another: 5 is none. It was
+ * one number for what 51 to 55 tell apart.
+ */
 enum asl_refusal {
     ASL_OK = 0,                  /* answered, not refused */
     ASL_REFUSED_SIZE = 1,        /* segment shorter than ASL_LEAST or longer than ASL_LIMIT */
     ASL_REFUSED_MAGIC = 2,       /* magic differs */
     ASL_REFUSED_VERSION = 3,     /* the segment's version is not ASL_FORMAT_VERSION */
     ASL_REFUSED_HEADER = 4,      /* header size, federation version, reserved or flags wrong, visibility above 1 */
-    ASL_REFUSED_LAYOUT = 5,      /* a layout rule broken, too many records; write: bloom size no multiple of 8 */
     ASL_REFUSED_CHECKSUM = 6,    /* stored and computed checksum differ */
     ASL_REFUSED_RECORD = 7,      /* reserved, flags, marks, visibility, source or domain wrong */
     ASL_REFUSED_DIGEST = 8,      /* unknown hash id, wrong length, or outside its section */
     ASL_REFUSED_EXTENTS = 9,     /* gone with extents, not gone with none, or misplaced */
     ASL_REFUSED_TOTAL = 10,      /* extent passes 2^32, sum differs or passes 2^32 - 1, gone with total not 0 */
     ASL_REFUSED_VISIBILITY = 11, /* the header's is not the largest of the records' */
-    ASL_REFUSED_DUPLICATE = 12,  /* key stands earlier; the place is the lowest such record */
+    ASL_REFUSED_DUPLICATE = 12,  /* key stands earlier; the place is that of the lowest such record */
     ASL_REFUSED_ROOM = 13,       /* out is shorter than the result; look up, step: no room for what is found */
     ASL_REFUSED_TABLE = 14,      /* the store's table breaks its rule */
     ASL_REFUSED_LIST = 15,       /* write: start + count passes the end of the lent digests or extents */
     ASL_REFUSED_LARGE = 16,      /* write: too many entries; write, tidy, tidy length: result longer than ASL_LIMIT */
-    ASL_REFUSED_KEY = 17         /* look up: hash id unknown, or digest length not the table's */
+    ASL_REFUSED_KEY = 17,        /* look up: hash id unknown, or digest length not the table's */
+
+    /* The layout of the sections, by sums over whole numbers, never modulo 2^64. Write gives 51 alone of these. */
+    ASL_REFUSED_LAYOUT_BLOOM = 51,   /* bloom offset wrong (0 if bloom size is 0, else 112); size no multiple of 8 */
+    ASL_REFUSED_LAYOUT_RECORDS = 52, /* more than ASL_RECORDS_LIMIT records; records offset not 112 + bloom size */
+    ASL_REFUSED_LAYOUT_DIGESTS = 53, /* digests offset not records offset + 48 * records; its size no multiple of 8 */
+    ASL_REFUSED_LAYOUT_EXTENTS = 54, /* extents offset not digests offset + digests size */
+    ASL_REFUSED_LAYOUT_LENGTH = 55   /* length of the segment not extents offset + 16 * extent count + 24 */
 };
 
-/* The refusal's name (docs/SERVICES.md, "Refusals"), "ok" for 0, and "unknown" for what is no refusal's number. */
+/*
+ * The refusal's name (docs/SERVICES.md, "Refusals"), "ok" for 0, and "unknown" for what is no refusal's number. 9 and
+ * 54 have one name, "extents": the number tells them apart.
+ */
 static inline const char *asl_refusal_name(uint64_t number) {
     switch (number) {
     case ASL_OK: return "ok";
@@ -108,7 +122,6 @@ static inline const char *asl_refusal_name(uint64_t number) {
     case ASL_REFUSED_MAGIC: return "magic";
     case ASL_REFUSED_VERSION: return "version";
     case ASL_REFUSED_HEADER: return "header";
-    case ASL_REFUSED_LAYOUT: return "layout";
     case ASL_REFUSED_CHECKSUM: return "checksum";
     case ASL_REFUSED_RECORD: return "record";
     case ASL_REFUSED_DIGEST: return "digest";
@@ -121,6 +134,11 @@ static inline const char *asl_refusal_name(uint64_t number) {
     case ASL_REFUSED_LIST: return "list";
     case ASL_REFUSED_LARGE: return "large";
     case ASL_REFUSED_KEY: return "key";
+    case ASL_REFUSED_LAYOUT_BLOOM: return "bloom";
+    case ASL_REFUSED_LAYOUT_RECORDS: return "records";
+    case ASL_REFUSED_LAYOUT_DIGESTS: return "digests";
+    case ASL_REFUSED_LAYOUT_EXTENTS: return "extents";
+    case ASL_REFUSED_LAYOUT_LENGTH: return "length";
     default: return "unknown";
     }
 }
@@ -142,8 +160,13 @@ static inline bool asl_ok(asl_answer a) { return asl_number(a) == ASL_OK; }
 static inline unsigned asl_which(asl_answer a) { return (unsigned)(a.bits >> 8 & 255); }
 
 /*
- * The place of a refusal: the number of the record or entry, from 0, for 7 to 10, 12 and 15, and 0 for every other
- * refusal. 0 where the call answered.
+ * The place of a refusal. From a call that is lent a segment it is a byte of it, counted from 0:
+ *   7 to 10, 12   the byte at which the record begins: records offset + 48 * its number
+ *   51 to 55      the byte of the header at which the rule's fields begin: 48, bloom offset, for 51; 32, record count,
+ *                 for 52; 64, digests offset, for 53; 80, extents offset, for 54; 88, extent count, for 55
+ * From asl_write, which is lent none, it is
+ *   7 to 10, 12, 15   the number of the entry, from 0
+ * It is 0 for every other refusal, so for write's 51 too, and where the call answered.
  */
 static inline uint64_t asl_place(asl_answer a) { return asl_ok(a) ? 0 : a.bits >> 16; }
 
@@ -347,7 +370,7 @@ static inline size_t asl_table_size(size_t pair_count) {
 /*
  * Checks a segment: answered exactly when it keeps every rule of the format.
  *
- * Refusals, in this order: 14; 1 to 6; then the records by number and within one 7 to 10; 11; 12.
+ * Refusals, in this order: 14; 1 to 4; 51 to 55; 6; then the records by number and within one 7 to 10; 11; 12.
  *
  * Nothing is written. The value of the answer is 0.
  */
@@ -450,8 +473,8 @@ static inline size_t asl_write_length(size_t bloom_size, const asl_entry *entrie
  * digests: the bytes in which the entries' digests lie; they may share bytes and leave some unused.
  * extents: likewise the list in which the entries' extents lie. extent_count counts extents.
  *
- * Refusals, in this order: 14; 16 for the count of entries; 5 for the bloom; then the entries by number and within one
- * 7, 15, 8, 9, 10; 12; 16 for the size of the result; 13 where out_size is below it.
+ * Refusals, in this order: 14; 16 for the count of entries; 51 where bloom_size is no multiple of 8; then the entries
+ * by number and within one 7, 15, 8, 9, 10; 12; 16 for the size of the result; 13 where out_size is below it.
  *
  * out: if answered, its first bytes, asl_length of them, are the segment; bytes after it stay.
  */

@@ -20,23 +20,33 @@ struct segment {
     uint8_t visibility;
 };
 
-// No number of a good header is greater than the file. Once that is known, no sum below can wrap.
-static int laid_out(const struct segment *s) {
-    if (s->bloom_size > s->size || s->digests_size > s->size || s->extent_count > s->size) return 0;
-    return s->record_count <= ASL_RECORDS_LIMIT && s->bloom_size % 8 == 0 && s->digests_size % 8 == 0 &&
-           s->bloom == (s->bloom_size ? HEADER : 0) && s->records == HEADER + s->bloom_size &&
-           s->digests == s->records + RECORD * s->record_count && s->extents == s->digests + s->digests_size &&
-           s->size == s->extents + EXTENT * s->extent_count + FOOTER;
+// Whether start + size is end. The sum is not made, since it might wrap.
+static int ends_at(uint64_t start, uint64_t size, uint64_t end) { return end >= start && end - start == size; }
+
+// Refusals 51 to 55, each at the byte of the header at which its fields begin. No product wraps: when one is made, its
+// count is known to be small.
+static asl_answer check_layout(const struct segment *s) {
+    if (s->bloom != (s->bloom_size ? HEADER : 0) || s->bloom_size % 8 != 0)
+        return refusal(ASL_REFUSED_LAYOUT_BLOOM, H_BLOOM_OFFSET);
+    if (s->record_count > ASL_RECORDS_LIMIT || !ends_at(HEADER, s->bloom_size, s->records))
+        return refusal(ASL_REFUSED_LAYOUT_RECORDS, H_RECORD_COUNT);
+    if (!ends_at(s->records, RECORD * s->record_count, s->digests) || s->digests_size % 8 != 0)
+        return refusal(ASL_REFUSED_LAYOUT_DIGESTS, H_DIGESTS_OFFSET);
+    if (!ends_at(s->digests, s->digests_size, s->extents))
+        return refusal(ASL_REFUSED_LAYOUT_EXTENTS, H_EXTENTS_OFFSET);
+    if (s->extent_count > s->size || !ends_at(s->extents, EXTENT * s->extent_count, s->size - FOOTER))
+        return refusal(ASL_REFUSED_LAYOUT_LENGTH, H_EXTENT_COUNT);
+    return accepted();
 }
 
-// Refusals 1 to 6; *s is the segment if there is none.
-static uint64_t read_segment(struct segment *s, const uint8_t *bytes, size_t size) {
-    if (size < ASL_LEAST || size > ASL_LIMIT) return ASL_REFUSED_SIZE;
-    if (memcmp(bytes + H_MAGIC, MAGIC, sizeof MAGIC) != 0) return ASL_REFUSED_MAGIC;
-    if (get16(bytes + H_VERSION) != ASL_FORMAT_VERSION) return ASL_REFUSED_VERSION;
+// Refusals 1 to 4, 51 to 55 and 6; *s is the segment if there is none.
+static asl_answer read_segment(struct segment *s, const uint8_t *bytes, size_t size) {
+    if (size < ASL_LEAST || size > ASL_LIMIT) return refusal(ASL_REFUSED_SIZE, 0);
+    if (memcmp(bytes + H_MAGIC, MAGIC, sizeof MAGIC) != 0) return refusal(ASL_REFUSED_MAGIC, 0);
+    if (get16(bytes + H_VERSION) != ASL_FORMAT_VERSION) return refusal(ASL_REFUSED_VERSION, 0);
     if (get32(bytes + H_HEADER_SIZE) != HEADER || bytes[H_VISIBILITY] > 1 || bytes[H_FEDERATION] != 0 ||
         get16(bytes + H_RESERVED) != 0 || get64(bytes + H_FLAGS) != 0)
-        return ASL_REFUSED_HEADER;
+        return refusal(ASL_REFUSED_HEADER, 0);
     *s = (struct segment){
         .bytes = bytes,
         .size = size,
@@ -51,14 +61,17 @@ static uint64_t read_segment(struct segment *s, const uint8_t *bytes, size_t siz
         .domain = get32(bytes + H_DOMAIN),
         .visibility = bytes[H_VISIBILITY],
     };
-    if (!laid_out(s)) return ASL_REFUSED_LAYOUT;
-    if (get64(bytes + size - FOOTER + F_CRC64) != NAME(crc64)(bytes, size - FOOTER)) return ASL_REFUSED_CHECKSUM;
-    return ASL_OK;
+    asl_answer laid_out = check_layout(s);
+    if (!asl_ok(laid_out)) return laid_out;
+    if (get64(bytes + size - FOOTER + F_CRC64) != NAME(crc64)(bytes, size - FOOTER))
+        return refusal(ASL_REFUSED_CHECKSUM, 0);
+    return accepted();
 }
 
-static const uint8_t *record_at(const struct segment *s, uint64_t number) {
-    return s->bytes + s->records + RECORD * number;
-}
+// The byte of the segment at which a record begins, and the place of its refusals.
+static uint64_t record_start(const struct segment *s, uint64_t number) { return s->records + RECORD * number; }
+
+static const uint8_t *record_at(const struct segment *s, uint64_t number) { return s->bytes + record_start(s, number); }
 
 static int lies_in(uint64_t start, uint64_t size, uint64_t section, uint64_t section_size) {
     return start >= section && size <= section_size && start - section <= section_size - size;
@@ -126,7 +139,7 @@ static asl_answer check_records(const struct segment *s, const struct table *t) 
     for (uint64_t number = 0; number < s->record_count; number++) {
         const uint8_t *r = record_at(s, number);
         uint64_t refused = record_refusal(s, t, r);
-        if (refused) return refusal(refused, number);
+        if (refused) return refusal(refused, record_start(s, number));
         struct item item = record_item(s, r);
         if (number > 0 && compare(&before, &item) >= 0) ascending = 0;
         if (item.visibility > visibility) visibility = item.visibility;
@@ -137,13 +150,13 @@ static asl_answer check_records(const struct segment *s, const struct table *t) 
     struct item *items = record_items(s);
     size_t repeat = first_repeat(items, s->record_count);
     free(items);
-    return repeat < s->record_count ? refusal(ASL_REFUSED_DUPLICATE, repeat) : accepted();
+    return repeat < s->record_count ? refusal(ASL_REFUSED_DUPLICATE, record_start(s, repeat)) : accepted();
 }
 
 // The whole check, but for the table.
 static asl_answer check_segment(struct segment *s, const struct table *t, const uint8_t *bytes, size_t size) {
-    uint64_t refused = read_segment(s, bytes, size);
-    return refused ? refusal(refused, 0) : check_records(s, t);
+    asl_answer read = read_segment(s, bytes, size);
+    return asl_ok(read) ? check_records(s, t) : read;
 }
 
 // Writing a segment -------------------------------------------------------------------------------------------------
@@ -315,7 +328,7 @@ static uint64_t read_entry(const struct lists *l, const struct table *t, const a
     return sums_up(item->in_list, e->extent_count, &item->total) ? ASL_OK : ASL_REFUSED_TOTAL;
 }
 
-// Refusals 7 to 10, 12 and 15 of the entries, which are in items if there is none.
+// Refusals 7 to 10, 12 and 15 of the entries, each at the entry's number; they are in items if there is none.
 static asl_answer read_entries(const struct lists *l, const struct table *t, const asl_entry *entries,
                                struct item *items, size_t count) {
     for (size_t i = 0; i < count; i++) {
@@ -443,7 +456,7 @@ asl_answer NAME(write)(const uint8_t *table, size_t table_size, uint16_t shard, 
     size_t count = entries_count / ENTRY_NUMBERS;
     if (!read_table(&t, table, table_size)) return refusal(ASL_REFUSED_TABLE, 0);
     if (count > ASL_RECORDS_LIMIT) return refusal(ASL_REFUSED_LARGE, 0);
-    if (bloom_size % 8 != 0) return refusal(ASL_REFUSED_LAYOUT, 0);
+    if (bloom_size % 8 != 0) return refusal(ASL_REFUSED_LAYOUT_BLOOM, 0);
     struct item *items = allocate(count, sizeof *items);
     asl_answer a = read_entries(&l, &t, (const asl_entry *)entries, items, count);
     if (asl_ok(a)) a = finish(&h, items, count, out, out_size);

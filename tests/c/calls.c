@@ -116,15 +116,45 @@ static struct bytes headed(struct bytes sample) {
 
 // Case L: a present key, a gone one, an absent one, every shorter beginning -----------------------------------------
 
+static const struct wanted ANOTHER_LENGTH = {ASL_REFUSED_LAYOUT_LENGTH, HEADER_EXTENT_COUNT, NULL, NULL};
+
 static void beginnings(void) {
     for (size_t size = 0; size < case_l.size; size++) {
         calling("the first %zu bytes of case L", size);
-        to_each((struct bytes){case_l.at, size}, refused(size < ASL_LEAST ? ASL_REFUSED_SIZE : ASL_REFUSED_LAYOUT, 0));
+        to_each((struct bytes){case_l.at, size}, size < ASL_LEAST ? refused(ASL_REFUSED_SIZE, 0) : ANOTHER_LENGTH);
     }
     uint8_t more[257] = {0};
     memcpy(more, case_l.at, case_l.size);
     calling("case L and one byte more");
-    to_each((struct bytes){more, sizeof more}, refused(ASL_REFUSED_LAYOUT, 0));
+    to_each((struct bytes){more, sizeof more}, ANOTHER_LENGTH);
+}
+
+// Every rule of the layout is broken, and then they are mended one by one: the first that is broken wins. The checksum
+// is wrong until the last is mended.
+static void broken_layout(void) {
+    static const struct {
+        uint64_t number, place;
+        size_t field;
+        uint64_t wrong;
+    } rules[] = {
+        {ASL_REFUSED_LAYOUT_BLOOM, 48, BLOOM_OFFSET, 112},
+        {ASL_REFUSED_LAYOUT_RECORDS, 32, RECORDS_OFFSET, 120},
+        {ASL_REFUSED_LAYOUT_DIGESTS, 64, DIGESTS_OFFSET, 224},
+        {ASL_REFUSED_LAYOUT_EXTENTS, 80, HEADER_EXTENTS_OFFSET, 224},
+        {ASL_REFUSED_LAYOUT_LENGTH, 88, HEADER_EXTENT_COUNT, 0},
+    };
+    struct bytes segment = copy(case_l);
+    uint8_t *at = (uint8_t *)segment.at;
+    size_t count = sizeof rules / sizeof *rules;
+    for (size_t i = 0; i < count; i++) put(at + rules[i].field, rules[i].wrong, 8);
+    for (size_t i = 0; i < count; i++) {
+        calling("the last %zu layout rules broken", count - i);
+        to_each(segment, refused(rules[i].number, rules[i].place));
+        memcpy(at + rules[i].field, (const uint8_t *)case_l.at + rules[i].field, 8);
+    }
+    calling("every layout rule mended");
+    check(TABLE, segment, ANSWERED);
+    free(at);
 }
 
 // The first record that is refused wins, whatever stands in a later one.
@@ -134,11 +164,11 @@ static void bad_total_and_bad_flag(void) {
     put(record_1 + FLAGS, 3, 4);
     seal((uint8_t *)segment.at, segment.size);
     calling("record 1 with a bad flag");
-    to_each(segment, refused(ASL_REFUSED_RECORD, 1));
+    to_each(segment, refused(ASL_REFUSED_RECORD, 160));
     put(record_0 + TOTAL, 4, 4);
     seal((uint8_t *)segment.at, segment.size);
     calling("record 0 with a bad total and record 1 with a bad flag");
-    to_each(segment, refused(ASL_REFUSED_TOTAL, 0));
+    to_each(segment, refused(ASL_REFUSED_TOTAL, 112));
     free((void *)segment.at);
 }
 
@@ -168,9 +198,9 @@ static void rooms_and_keys(void) {
     for (size_t size = 0; size < FOUND; size++) look_up(TABLE, case_l, 7, KEY, size, refused(ASL_REFUSED_ROOM, 0));
     for (size_t size = 0; size < FIELDS; size++) step(TABLE, case_l, 1, size, refused(ASL_REFUSED_ROOM, 0));
     calling("a bad segment before too little room");
-    look_up(TABLE, (struct bytes){case_l.at, 200}, 7, KEY, 0, refused(ASL_REFUSED_LAYOUT, 0));
-    step(TABLE, (struct bytes){case_l.at, 200}, 0, 0, refused(ASL_REFUSED_LAYOUT, 0));
-    tidy(TABLE, (struct bytes){case_l.at, 200}, 0, refused(ASL_REFUSED_LAYOUT, 0));
+    look_up(TABLE, (struct bytes){case_l.at, 200}, 7, KEY, 0, ANOTHER_LENGTH);
+    step(TABLE, (struct bytes){case_l.at, 200}, 0, 0, ANOTHER_LENGTH);
+    tidy(TABLE, (struct bytes){case_l.at, 200}, 0, ANOTHER_LENGTH);
     calling("a key of a wrong length");
     for (size_t size = 0; size < 8; size++) {
         struct bytes key = {digests_of_l, size};
@@ -259,7 +289,7 @@ static void written(void) {
     check(TABLE, empty, ANSWERED);
 }
 
-// A field of entry 1 changed, given by its place in the struct.
+// A field of entry 1 changed, given by its place in the struct. The refusal's place is the entry's number.
 static void changed_entry(size_t field, uint64_t value, uint64_t number) {
     struct writing a = writing_of_l();
     asl_entry entries[2];
@@ -305,7 +335,7 @@ static void bad_lists(void) {
     a = writing_of_l();
     calling("a bloom of 7 bytes");
     a.bloom = (struct bytes){digests_of_l, 7};
-    write_segment(a, refused(ASL_REFUSED_LAYOUT, 0));
+    write_segment(a, refused(ASL_REFUSED_LAYOUT_BLOOM, 0));
 }
 
 // Counts that wrap when they are made bytes or numbers: an inline function does not take them for smaller ones.
@@ -338,7 +368,7 @@ static void declared(void) {
                    "the structs lie as the raw calls take and leave them");
     asl_extent extent = asl_extent_at(case_l.at, 216, 0);
     calling("asl.h");
-    expect(asl_raw_version() == ((uint64_t)2 << 32) && asl_version() == ASL_VERSION, CHECK, "another version");
+    expect(asl_raw_version() == ((uint64_t)3 << 32) && asl_version() == ASL_VERSION, CHECK, "another version");
     expect(memcmp(&extent, extents_of_l, sizeof extent) == 0, LOOK_UP, "another extent");
 }
 
@@ -371,6 +401,34 @@ static void take_back(struct writing a) {
     free((void *)a.entries.at);
     free((void *)a.digests.at);
     free((void *)a.extents.at);
+}
+
+// A field of record 3 changed, in a segment with 16 bloom bytes: the record begins at 112 + 16 + 48 * 3, the place.
+static void changed_record(struct bytes written, size_t field, uint64_t value, int size, uint64_t number) {
+    struct bytes segment = copy(written);
+    uint8_t *at = (uint8_t *)segment.at;
+    put(at + 272 + field, value, size);
+    seal(at, segment.size);
+    calling("the number at byte %zu of record 3 is %" PRIu64, field, value);
+    to_each(segment, refused(number, 272));
+    free(at);
+}
+
+static void bad_records_after_bloom(void) {
+    static const uint8_t bloom[16] = {0};
+    struct writing a = many(4, 1);
+    a.bloom = (struct bytes){bloom, sizeof bloom};
+    a.room += sizeof bloom;
+    calling("four entries and a bloom");
+    struct bytes written = copy(write_segment(a, ANSWERED));
+    uint64_t digest_of_1 = number_in((const uint8_t *)written.at + HEADER + sizeof bloom + RECORD + DIGEST_OFFSET, 8);
+    changed_record(written, FLAGS, 2, 4, ASL_REFUSED_RECORD);
+    changed_record(written, HASH_ID, 8, 4, ASL_REFUSED_DIGEST);
+    changed_record(written, EXTENT_COUNT, 0, 4, ASL_REFUSED_EXTENTS);
+    changed_record(written, TOTAL, 1, 4, ASL_REFUSED_TOTAL);
+    changed_record(written, DIGEST_OFFSET, digest_of_1, 8, ASL_REFUSED_DUPLICATE);
+    free((void *)written.at);
+    take_back(a);
 }
 
 static void most_entries(void) {
@@ -446,25 +504,11 @@ static void too_large(void) {
 // The whole ---------------------------------------------------------------------------------------------------------
 
 // Every number that an entry point can give was given, and no other. Each can answer as well, which is 0.
-static int can_give(int service, int number) {
-    static const int possible[SERVICES][NUMBERS] = {
-        [CHECK] = {1, 2, 3, 4, 5, 6, 7, 8, 9, 10, 11, 12, 14},
-        [LOOK_UP] = {1, 2, 3, 4, 5, 6, 7, 8, 9, 10, 11, 12, 13, 14, 17},
-        [STEP] = {1, 2, 3, 4, 5, 6, 7, 8, 9, 10, 11, 12, 13, 14},
-        [TIDY_LENGTH] = {1, 2, 3, 4, 5, 6, 7, 8, 9, 10, 11, 12, 14, 16},
-        [TIDY] = {1, 2, 3, 4, 5, 6, 7, 8, 9, 10, 11, 12, 13, 14, 16},
-        [WRITE] = {5, 7, 8, 9, 10, 12, 13, 14, 15, 16},
-    };
-    for (const int *given = possible[service]; *given; given++)
-        if (*given == number) return 1;
-    return number == ASL_OK;
-}
-
 static void every_number(void) {
     for (int service = 0; service < SERVICES; service++)
-        for (int number = 0; number < NUMBERS; number++) {
+        for (unsigned number = 0; number < NUMBERS; number++) {
             int given = met[service][number] > 0;
-            calling("number %d (%s)", number, asl_refusal_name((uint64_t)number));
+            calling("number %u (%s)", number, asl_refusal_name(number));
             if (given || can_give(service, number))
                 expect(given && can_give(service, number), service, "given though it cannot be, or never");
         }
@@ -476,6 +520,7 @@ static void *all_calls(void *arguments) {
     case_l = headed(read_file(paths[2]));
     answers();
     beginnings();
+    broken_layout();
     bad_total_and_bad_flag();
     rooms_and_keys();
     bad_tables();
@@ -485,6 +530,7 @@ static void *all_calls(void *arguments) {
     bad_entries();
     bad_lists();
     impossible_counts();
+    bad_records_after_bloom();
     most_entries();
     turned_round();
     too_large();

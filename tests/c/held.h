@@ -7,16 +7,17 @@
 #include <string.h>
 
 #include "asl.h"
+#include "given.h"
 #include "lend.h"
 
-enum { CHECK, LOOK_UP, STEP, TIDY_LENGTH, TIDY, WRITE, SERVICES };
 // Of the file: sizes, and where some fields of a header, a record and the footer stand.
 enum { HEADER = 112, RECORD = 48, FOOTER = 24 };
-enum { SHARD = 10, SNAPSHOT_MIN = 16, SNAPSHOT_MAX = 24, RECORD_COUNT = 32, RECORDS_OFFSET = 40 };
-enum { EXTENTS_OFFSET = 16, EXTENT_COUNT = 24, TOTAL = 28, FLAGS = 44 };
+enum { SHARD = 10, SNAPSHOT_MIN = 16, SNAPSHOT_MAX = 24, RECORD_COUNT = 32, RECORDS_OFFSET = 40, BLOOM_OFFSET = 48 };
+enum { DIGESTS_OFFSET = 64, HEADER_EXTENTS_OFFSET = 80, HEADER_EXTENT_COUNT = 88 };
+enum { HASH_ID = 0, DIGEST_OFFSET = 8, EXTENTS_OFFSET = 16, EXTENT_COUNT = 24, TOTAL = 28, FLAGS = 44 };
 enum { SEAL_SNAPSHOT = 8, SEAL_TIME = 16 };
 enum { FOUND = 64, FIELDS = 104, FIELD_COUNT = 13 };
-enum { NUMBERS = 256, CANARY = 64, ROOM = 65536, PATTERN = 0x5A };
+enum { CANARY = 64, ROOM = 65536, PATTERN = 0x5A };
 static const char *const service_names[SERVICES] = {"check", "look-up", "step", "tidy-length", "tidy", "write"};
 
 struct bytes {

@@ -1,6 +1,6 @@
 // A fuzz target: asks the library and bench/plain/plain.c one question, made of the input's bytes, and stops where any
-// part of their answers differs. plain.c is compiled with the fuzzer's counters, so its branches, one for each rule,
-// lead to new inputs. Every buffer is lent at exactly its size (lend.h).
+// part of their answers differs, or the call cannot answer so. plain.c is compiled with the fuzzer's counters, so its
+// branches, one for each rule, lead to new inputs. Every buffer is lent at exactly its size (lend.h).
 //
 // The input: a byte whose low three bits are the service and whose next bit makes the checksum right; a byte for the
 // table; two bytes for the room. Look up goes on with a hash id, a length and that many digest bytes, step with the
@@ -10,6 +10,7 @@
 #include <string.h>
 
 #include "asl.h"
+#include "given.h"
 #include "lend.h"
 
 struct services {
@@ -34,7 +35,6 @@ static const struct services library = {asl_raw_check, asl_raw_look_up,     asl_
 static const struct services plain = {plain_check, plain_look_up, plain_tidy, plain_write, plain_tidy_length,
                                       plain_step};
 
-enum { CHECK, LOOK_UP, TIDY, WRITE, TIDY_LENGTH, STEP, SERVICES };
 enum { TABLE, SEGMENT, DIGEST, BLOOM, ENTRIES, DIGESTS, EXTENTS, OUT, SLICES };
 enum { RIGHT_CHECKSUM = 8 };
 // Look up leaves 64 bytes and step 104; what they are lent is shorter than this.
@@ -163,6 +163,40 @@ static void ask(const struct services *to, const struct question *q, struct answ
     memcpy(a->out, out.at, out.size);
 }
 
+// What a call can answer ----------------------------------------------------------------------------------------------
+
+// Whether a record of the segment begins at that byte.
+static int begins_record(struct slice segment, uint64_t byte) {
+    const uint8_t *header = segment.at;
+    uint64_t count = asl_little_endian(header + 32, 8), records = asl_little_endian(header + 40, 8);
+    return byte >= records && (byte - records) % ASL_RECORD_SIZE == 0 && (byte - records) / ASL_RECORD_SIZE < count;
+}
+
+// Whether the refusal can have that place: in write the number of an entry, elsewhere a byte of the segment.
+static int can_stand_at(const struct question *q, unsigned number, uint64_t place) {
+    int writes = q->service == WRITE;
+    switch (number) {
+    case ASL_REFUSED_RECORD:
+    case ASL_REFUSED_DIGEST:
+    case ASL_REFUSED_EXTENTS:
+    case ASL_REFUSED_TOTAL:
+    case ASL_REFUSED_DUPLICATE:
+    case ASL_REFUSED_LIST:
+        return writes ? place < q->slices[ENTRIES].size / sizeof(asl_entry) : begins_record(q->slices[SEGMENT], place);
+    case ASL_REFUSED_LAYOUT_BLOOM: return place == (writes ? 0 : 48);
+    case ASL_REFUSED_LAYOUT_RECORDS: return place == 32;
+    case ASL_REFUSED_LAYOUT_DIGESTS: return place == 64;
+    case ASL_REFUSED_LAYOUT_EXTENTS: return place == 80;
+    case ASL_REFUSED_LAYOUT_LENGTH: return place == 88;
+    default: return place == 0;
+    }
+}
+
+static int can_answer(const struct question *q, asl_answer a) {
+    unsigned number = asl_number(a);
+    return asl_which(a) == 0 && can_give(q->service, number) && can_stand_at(q, number, asl_place(a));
+}
+
 int LLVMFuzzerTestOneInput(const uint8_t *input, size_t size);
 
 int LLVMFuzzerTestOneInput(const uint8_t *input, size_t size) {
@@ -176,6 +210,10 @@ int LLVMFuzzerTestOneInput(const uint8_t *input, size_t size) {
         fprintf(stderr, "service %d: the library's answer is %#llx, plain.c's %#llx, and the bytes are %s\n", q.service,
                 (unsigned long long)ours.bits, (unsigned long long)theirs.bits,
                 memcmp(ours.out, theirs.out, sizeof ours.out) == 0 ? "the same" : "others");
+        abort();
+    }
+    if (!can_answer(&q, (asl_answer){ours.bits})) {
+        fprintf(stderr, "service %d: it has no answer %#llx\n", q.service, (unsigned long long)ours.bits);
         abort();
     }
     return 0;

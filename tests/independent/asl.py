@@ -2,9 +2,9 @@
 check, look up, write, tidy, the walk's step and the listing; and on the length of the tidy form,
 which C asks for before it lends an output.
 
-Written without a look at the crates, from the paper that decided the rules (README.md, "What
-decides") and in its order. Numbers are Python's whole numbers, so nothing here is modulo anything.
-Every public function answers with the refusal's number (0 when there is none) and its place.
+Written without a look at the crates, from what decided the rules (README.md, "What decides") and
+in its order. Numbers are Python's whole numbers, so nothing here is modulo anything. Every public
+function answers with the refusal's number (0 when there is none) and its place.
 """
 
 import struct
@@ -79,7 +79,6 @@ class No(IntEnum):
     MAGIC = 2
     VERSION = 3
     HEADER = 4
-    LAYOUT = 5
     CHECKSUM = 6
     RECORD = 7
     DIGEST = 8
@@ -92,6 +91,11 @@ class No(IntEnum):
     LIST = 15
     LARGE = 16
     KEY = 17
+    LAYOUT_BLOOM = 51
+    LAYOUT_RECORDS = 52
+    LAYOUT_DIGESTS = 53
+    LAYOUT_EXTENTS = 54
+    LAYOUT_LENGTH = 55
 
 
 class Refusal(Exception):
@@ -145,12 +149,12 @@ def largest_visibility(items):
     return max((item.visibility for item in items), default=0)
 
 
-def refuse_repeated_key(items):
-    """Gives the lowest item whose key stands earlier."""
+def refuse_repeated_key(places, items):
+    """Gives the place of the lowest item whose key stands earlier."""
     keys = set()
-    for number, item in enumerate(items):
+    for place, item in zip(places, items):
         key = (item.hash_id, item.digest)
-        refuse_if(key in keys, No.DUPLICATE, number)
+        refuse_if(key in keys, No.DUPLICATE, place)
         keys.add(key)
 
 
@@ -170,11 +174,12 @@ def examine(lengths, segment):
     extents = [Extent._make(fields) for fields in EXTENT.iter_unpack(
         segment[header.extents_offset:-FOOTER.size])]
     sums = RunningSums(extents)
-    for number, record in enumerate(records):
-        examine_record(number, record, header, lengths, sums)
+    places = record_places(header)
+    for place, record in zip(places, records):
+        examine_record(place, record, header, lengths, sums)
     items = [item_of(record, header, segment) for record in records]
     refuse_if(header.visibility != largest_visibility(items), No.VISIBILITY)
-    refuse_repeated_key(items)
+    refuse_repeated_key(places, items)
     bloom = segment[HEADER.size:header.records_offset]
     return Segment(header, bloom, records, items, extents, footer_of(segment))
 
@@ -183,43 +188,60 @@ def footer_of(segment):
     return Footer._make(FOOTER.unpack_from(segment, len(segment) - FOOTER.size))
 
 
+def record_places(header):
+    """The byte of the file at which each record begins."""
+    return range(header.records_offset, header.digests_offset, RECORD.size)
+
+
 def examine_header(segment):
-    """Refusals 1 to 6."""
+    """Refusals 1 to 4, 51 to 55, and 6."""
     refuse_if(not LEAST_FILE <= len(segment) <= MOST_FILE, No.SIZE)
     header = Header._make(HEADER.unpack_from(segment))
     refuse_if(header.magic != MAGIC, No.MAGIC)
     refuse_if(header.version != VERSION, No.VERSION)
     refuse_if(header.header_size != HEADER.size or header.federation_version != 0
               or header.reserved != 0 or header.flags != 0 or header.visibility > 1, No.HEADER)
-    right = layout(header.bloom_size, header.record_count, header.digests_size,
-                   header.extent_count)
-    stated = Layout(header.bloom_offset, header.records_offset, header.digests_offset,
-                    header.extents_offset, len(segment))
-    refuse_if(stated != right, No.LAYOUT)
-    refuse_if(any(offset % 8 != 0 for offset in right[:4]), No.LAYOUT)
-    refuse_if(header.record_count > MOST_RECORDS, No.LAYOUT)
+    for broken, number, place in layout_rules(header, len(segment)):
+        refuse_if(broken, number, place)
     refuse_if(footer_of(segment).crc64 != crc64(segment[:-FOOTER.size]), No.CHECKSUM)
     return header
 
 
-def examine_record(number, record, header, lengths, sums):
+def layout_rules(header, file_length):
+    """51 to 55 in their order: whether the rule is broken, its number, and the byte of the header
+    at which the rule's fields begin."""
+    right = layout(header.bloom_size, header.record_count, header.digests_size,
+                   header.extent_count)
+    return [
+        (header.bloom_offset != right.bloom_offset or header.bloom_size % 8 != 0,
+         No.LAYOUT_BLOOM, 48),
+        (header.record_count > MOST_RECORDS or header.records_offset != right.records_offset,
+         No.LAYOUT_RECORDS, 32),
+        (header.digests_offset != right.digests_offset or header.digests_size % 8 != 0,
+         No.LAYOUT_DIGESTS, 64),
+        (header.extents_offset != right.extents_offset, No.LAYOUT_EXTENTS, 80),
+        (file_length != right.file_length, No.LAYOUT_LENGTH, 88),
+    ]
+
+
+def examine_record(place, record, header, lengths, sums):
     """Refusals 7 to 10 of one record."""
     refuse_if(record.reserved_6 != 0 or record.reserved_38 != 0 or record.flags > GONE
               or record.visibility > 1 or record.imported > 1
               or (record.imported == 0 and record.source != 0)
-              or record.domain != header.domain, No.RECORD, number)
+              or record.domain != header.domain, No.RECORD, place)
     refuse_if(record.digest_length != lengths.get(record.hash_id)
-              or not digest_is_inside(record, header), No.DIGEST, number)
+              or not digest_is_inside(record, header), No.DIGEST, place)
     if record.flags == GONE:
-        refuse_if(record.extents_offset != 0 or record.extent_count != 0, No.EXTENTS, number)
-        refuse_if(record.total != 0, No.TOTAL, number)
+        refuse_if(record.extents_offset != 0 or record.extent_count != 0, No.EXTENTS, place)
+        refuse_if(record.total != 0, No.TOTAL, place)
         return
     refuse_if(record.extent_count == 0
               or (record.extents_offset - header.extents_offset) % EXTENT.size != 0
-              or not extents_are_inside(record, header), No.EXTENTS, number)
+              or not extents_are_inside(record, header), No.EXTENTS, place)
     first = first_extent(record, header)
     refuse_if(sums.some_extent_passes(first, record.extent_count)
-              or sums.total(first, record.extent_count) != record.total, No.TOTAL, number)
+              or sums.total(first, record.extent_count) != record.total, No.TOTAL, place)
 
 
 def lies_inside(start, size, section_start, section_size):
@@ -404,13 +426,13 @@ def write(table, heading, bloom, entries, digests, extents, out):
     try:
         lengths = lengths_of(table)
         refuse_if(len(entries) // len(Entry._fields) > MOST_RECORDS, No.LARGE)
-        refuse_if(len(bloom) % 8 != 0, No.LAYOUT)
+        refuse_if(len(bloom) % 8 != 0, No.LAYOUT_BLOOM)
         entries, extents = finished(Entry, entries), finished(Extent, extents)
         sums = RunningSums(extents)
         for number, entry in enumerate(entries):
             examine_entry(number, entry, lengths, len(digests), len(extents), sums)
         items = [item_of_entry(entry, digests, sums) for entry in entries]
-        refuse_repeated_key(items)
+        refuse_repeated_key(range(len(items)), items)
         return 0, 0, write_tidy_form(Heading(*heading), bloom, items, extents, out)
     except Refusal as refusal:
         return refusal.number, refusal.place, 0

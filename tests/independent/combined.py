@@ -11,14 +11,16 @@ RECORDS = 3
 # For each of a record's refusals a field of its own, so that one fault leaves the others there.
 RECORD_FAULTS = {7: ("reserved 38", 1), 8: ("digest length", 3), 9: ("extent count", 99),
                  10: ("total", 77)}
-HEADER_FAULTS = {2: ("magic", 0), 3: ("version", 4), 4: ("flags", 1), 5: ("extent count", 0),
-                 11: ("visibility", 0)}
+HEADER_FAULTS = {2: ("magic", 0), 3: ("version", 4), 4: ("flags", 1), 51: ("bloom offset", 0),
+                 52: ("records offset", 112), 53: ("digests offset", 0),
+                 54: ("extents offset", 0), 55: ("extent count", 0), 11: ("visibility", 0)}
 
 
 def whole_segment():
+    """With bloom bytes, so that the records do not begin where the header ends."""
     return small.in_order([small.live(small.KEY_7E, [(1, 2, 3)]),
                            small.gone(small.KEY_7C, visibility=1),
-                           small.live(small.KEY_7D, [(4, 5, 6), (7, 8, 9)])])
+                           small.live(small.KEY_7D, [(4, 5, 6), (7, 8, 9)])], bloom=b"blooming")
 
 
 # Faults are (name, function that changes a case); the segment is still a bytearray.
@@ -31,8 +33,8 @@ def header_fault(number):
 def record_fault(number, record):
     field, value = RECORD_FAULTS[number]
     start = Places(whole_segment()).records[record]
-    return f"{number} at {record}", lambda case: put(case.segment, start, RECORD_FIELDS[field],
-                                                     value)
+    return f"{number} in record {record}", lambda case: put(case.segment, start,
+                                                            RECORD_FIELDS[field], value)
 
 
 def duplicate_fault(record):
@@ -42,7 +44,7 @@ def duplicate_fault(record):
     def change(case):
         offset = get(case.segment, starts[0], RECORD_FIELDS["digest offset"])
         put(case.segment, starts[record], RECORD_FIELDS["digest offset"], offset)
-    return f"12 at {record}", change
+    return f"12 in record {record}", change
 
 
 def less_room(case):
@@ -99,26 +101,26 @@ def entry_fault(number, entry):
 
     def change(case):
         case.entries[9 * entry + field] = value
-    return f"{number} at {entry}", change
+    return f"{number} in entry {entry}", change
 
 
 def extent_fault(entry):
     def change(case):
         case.extents[3 * entry + 2] = 2**32
-    return f"10 at {entry}", change
+    return f"10 in entry {entry}", change
 
 
 def repeated_key_fault(entry):
     def change(case):
         case.entries[9 * entry + 1] = 0
-    return f"12 at {entry}", change
+    return f"12 in entry {entry}", change
 
 
 def write_faults():
     faults = [entry_fault(number, entry) for number in ENTRY_FAULTS for entry in range(RECORDS)]
     faults += [extent_fault(entry) for entry in range(RECORDS)]
     faults += [repeated_key_fault(entry) for entry in range(1, RECORDS)]
-    return faults + [("5", lambda case: setattr(case, "bloom", b"bloom")),
+    return faults + [("51", lambda case: setattr(case, "bloom", b"bloom")),
                      ("13", less_room),
                      ("14", lambda case: setattr(case, "table", case.table[:-1]))]
 

@@ -27,13 +27,14 @@ from shapes import any_meaning
 
 # Which numbers each service can give, and which values in an answer, where these are few; all of
 # them have to be met in a run.
+OF_CHECK = [0, 1, 2, 3, 4, 51, 52, 53, 54, 55, 6, 7, 8, 9, 10, 11, 12, 14]
 POSSIBLE = {
-    "check": [*range(13), 14],
-    "look up": [*range(15), 17],
-    "tidy": [*range(15), 16],
-    "write": [0, 5, 7, 8, 9, 10, 12, 13, 14, 15, 16],
-    "tidy length": [*range(13), 14, 16],
-    "step": [*range(15)],
+    "check": OF_CHECK,
+    "look up": [*OF_CHECK, 13, 17],
+    "tidy": [*OF_CHECK, 13, 16],
+    "write": [0, 51, 7, 8, 9, 10, 12, 13, 14, 15, 16],
+    "tidy length": [*OF_CHECK, 16],
+    "step": [*OF_CHECK, 13],
 }
 POSSIBLE_VALUES = {"look up": (ABSENT, STATE_GONE, PRESENT), "step": (LEFT, DONE)}
 MOST_SHOWN = 5

@@ -151,6 +151,34 @@ def wrapping_bloom(patient):
     return f"bloom size {new}, the rest fitting modulo 2^64"
 
 
+LAYOUT_FIELDS = {name: HEADER_FIELDS[name] for name in (
+    "bloom offset", "bloom size", "records offset", "record count", "digests offset",
+    "digests size", "extents offset", "extent count")}
+
+
+def layout_field(patient):
+    return field_at_edge(patient, LAYOUT_FIELDS, 0, "header")
+
+
+def rules_broken_together(patient):
+    """Some of the layout's rules, each by a field that no rule before it looks at."""
+    names = patient.rng.sample(("bloom offset", "records offset", "digests offset",
+                                "extents offset", "extent count"), patient.rng.randint(2, 5))
+    for name in names:
+        patient.put_header(name, patient.header(name) + patient.rng.choice((-8, -1, 1, 8, 48)))
+    return f"header {', '.join(names)} changed"
+
+
+def section_resized(patient):
+    """One size changed and every offset with it: what is wrong then is the file's length, or that
+    a size is no multiple of 8."""
+    new = sizes(patient)
+    section = patient.rng.randrange(len(new))
+    new[section] = max(new[section] + patient.rng.choice((-8, -1, 1, 4, 8, 16)), 0)
+    put_layout_modulo(patient, *new)
+    return f"sizes of the sections {new}"
+
+
 def sections_moved(patient):
     """Another division of the same bytes that is as good a layout, if by multiples of 8."""
     bloom, records, digests, extents = sizes(patient)
@@ -312,7 +340,8 @@ def record_twice(patient):
 
 DAMAGES = (
     one_byte, shorter, longer, header_field, record_field, extent_field, footer_field,
-    wrapping_counts, wrapping_bloom, sections_moved, sections_traded,
+    wrapping_counts, wrapping_bloom, layout_field, rules_broken_together, section_resized,
+    sections_moved, sections_traded,
     marks, digest_at_section_edge, other_pair, extents_at_section_edge, extent_count_at_edge,
     gone_turned, extent_at_2_to_32, total_of_its_extents,
     header_visibility, same_key, equal_digest_bytes, record_twice,

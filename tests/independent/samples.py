@@ -42,6 +42,8 @@ SAMPLES = {
     "refused-short": CASE_L[:100],
     "refused-magic": with_header(CASE_L, magic=0),
     "refused-cut": CASE_L[:-1],
+    # Its digests offset is 200; the digests begin at 208.
+    "refused-offset": with_header(CASE_L, digests_offset=200),
     "refused-checksum": CASE_L[:-1 - 16] + b"\xff" + CASE_L[-16:],
     # Record 1's flags are 3, under the old checksum.
     "refused-damaged": CASE_L[:204] + b"\3" + CASE_L[205:],

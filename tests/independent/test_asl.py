@@ -96,13 +96,13 @@ class PaperCases(unittest.TestCase):
     def test_bloom_size_wraps(self):
         segment = with_header(small.case_l(), bloom_offset=112, bloom_size=2**64 - 112,
                               records_offset=0)
-        self.assertEqual(check(segment), (5, 0))
+        self.assertEqual(check(segment), (52, 32))
 
     def test_extent_at_2_to_32(self):
-        for length, number in ((1, 0), (2, 10)):
+        for length, answer in ((1, (0, 0)), (2, (10, 112))):
             segment = with_record(small.one(), 0, total=length)
             segment = with_extent(segment, 0, offset=4_294_967_295, length=length)
-            self.assertEqual(check(segment), (number, 0))
+            self.assertEqual(check(segment), answer)
 
     def test_empty_export_is_present(self):
         segment = small.in_order([small.live(small.KEY_7D, [(9, 64, 0)])])
@@ -111,7 +111,7 @@ class PaperCases(unittest.TestCase):
 
     def test_live_with_no_extents(self):
         segment = with_record(small.one(), 0, extent_count=0, total=0)
-        self.assertEqual(check(segment), (9, 0))
+        self.assertEqual(check(segment), (9, 112))
 
     def test_visibility_over_no_records(self):
         self.assertEqual(check(with_header(small.empty(), visibility=1)), (11, 0))
@@ -125,8 +125,8 @@ class PaperCases(unittest.TestCase):
     def test_every_beginning_of_case_l(self):
         segment = small.case_l()
         for size in range(len(segment)):
-            self.assertEqual(check(segment[:size]), (5 if size >= 136 else 1, 0))
-        self.assertEqual(check(segment + b"\0"), (5, 0))
+            self.assertEqual(check(segment[:size]), (55, 88) if size >= 136 else (1, 0))
+        self.assertEqual(check(segment + b"\0"), (55, 88))
 
     def test_65536_and_65537_entries(self):
         for count, number in ((65_536, 0), (65_537, 16)):
@@ -137,7 +137,7 @@ class PaperCases(unittest.TestCase):
 
     def test_bad_total_before_bad_flag_of_the_next(self):
         segment = with_record(with_record(small.case_l(), 0, total=4), 1, flags=2)
-        self.assertEqual(check(segment), (10, 0))
+        self.assertEqual(check(segment), (10, 112))
 
 
 class Walk(unittest.TestCase):
@@ -164,7 +164,7 @@ class Walk(unittest.TestCase):
     def test_refused_wherever_the_damage_is(self):
         damaged = with_record(small.case_l(), 1, flags=2)
         for record in (0, 1, 2):
-            self.assertEqual(self.step(record, damaged), (7, 1, None))
+            self.assertEqual(self.step(record, damaged), (7, 160, None))
 
 
 class TidyAndListing(unittest.TestCase):
@@ -195,7 +195,7 @@ class TidyAndListing(unittest.TestCase):
         self.assertEqual(asl.listing(small.empty()), "records 0\nextents 0\n")
 
     def test_listing_refused(self):
-        self.assertEqual(asl.listing(small.case_l()[:-1]), "refused 5 at 0\n")
+        self.assertEqual(asl.listing(small.case_l()[:-1]), "refused 55 at 88\n")
 
     def test_listing_too_long(self):
         self.assertEqual(asl.listing(bytes(65_537)), "too long\n")

@@ -72,8 +72,8 @@ WRONG = {
         "const uint8_t *footer = segment + segment_size - FOOTER;\n"
         "    ((uint8_t *)segment)[H_SHARD] ^= 1;"),
 }
-READS_TOO_FAR = ("if (!laid_out(s)) return ASL_REFUSED_LAYOUT;",
-                 "if (!laid_out(s) || bytes[size] == 1) return ASL_REFUSED_LAYOUT;")
+READS_TOO_FAR = ("if (!asl_ok(laid_out)) return laid_out;",
+                 "if (!asl_ok(laid_out) || bytes[size] == 1) return laid_out;")
 
 
 def some_cases():

@@ -1,7 +1,9 @@
 """What docs/FORMAT.md prints for a tester: case L's bytes are the sample's, its checksum program
-answers the published value, its command finds the damaged record behind refusal 6, and its other
-commands show the fields that each refusal is about."""
+answers the published value, its command finds the damaged record behind refusal 6, its other
+commands show the fields that each refusal is about, and the bad files that it shows are refused as
+it says. Its sums are right."""
 
+import math
 import re
 import subprocess
 import tempfile
@@ -12,7 +14,8 @@ import asl
 import samples
 import testing
 
-PAGE = (Path(__file__).resolve().parent.parent.parent / "docs/FORMAT.md").read_text()
+ROOT = Path(__file__).resolve().parent.parent.parent
+PAGE = (ROOT / "docs/FORMAT.md").read_text()
 
 
 def blocks(fence):
@@ -20,7 +23,23 @@ def blocks(fence):
     return re.findall(rf"^```{fence}\n(.*?)^```$", PAGE, re.DOTALL | re.MULTILINE)
 
 
-MEND, BEGIN, VISIBILITIES, KEYS, EXTENTS = blocks("sh")
+MEND, NUMBER, VISIBILITIES, KEYS, EXTENTS = blocks("sh")
+
+
+def commands():
+    """The commands of the page's last section, by the number of the refusal."""
+    section = PAGE[PAGE.index("## Which bytes to look at"):]
+    found, number = {}, None
+    for named, command in re.findall(r"^\| (?:([0-9]+) )?\| `(.*?)` \|", section, re.MULTILINE):
+        number = named or number
+        found.setdefault(number, []).append(command)
+    return found
+
+
+def run_in(folder, command):
+    """What a command prints there."""
+    return subprocess.run(["bash", "-c", command], cwd=folder, check=True,
+                          stdout=subprocess.PIPE).stdout
 
 
 def printed_bytes():
@@ -36,6 +55,39 @@ class Printed(unittest.TestCase):
     def test_case_l_is_the_sample(self):
         self.assertEqual(printed_bytes(), (samples.FOLDER / "case-l.asl").read_bytes())
 
+    def test_sums(self):
+        sums = re.findall(r"((?:[0-9]+ [+×] )+[0-9]+) += ([0-9]+)", PAGE)
+        self.assertGreater(len(sums), 0)
+        for terms, result in sums:
+            products = [math.prod(map(int, term.split(" × "))) for term in terms.split(" + ")]
+            self.assertEqual(sum(products), int(result), terms)
+
+
+# The bad files that the page shows: refusal, place, and what is typed and printed.
+WORKED = re.findall(r"^\*\*([0-9]+) at ([0-9]+)\.\*\*[^`]*^```console\n(.*?)^```$", PAGE,
+                    re.DOTALL | re.MULTILINE)
+
+
+class Worked(unittest.TestCase):
+    def test_all_are_found(self):
+        self.assertEqual([number for number, _, _ in WORKED], ["51", "52", "53", "54", "55", "7"])
+        self.assertEqual([block for _, _, block in WORKED], blocks("console"))
+
+    def test_each_is_refused_as_it_says_and_shown_by_its_command(self):
+        for number, place, block in WORKED:
+            typed = re.findall(r"^\$ (.*)$", block, re.MULTILINE)
+            file, = {command.split()[-1] for command in typed}
+            self.assertEqual(asl.listing((ROOT / file).read_bytes()),
+                             f"refused {number} at {place}\n")
+            self.assertEqual("; ".join(typed).replace(file, "FILE"),
+                             commands()[number][0].replace("$P", place))
+            self.assertEqual("".join(f"$ {command}\n{run_in(ROOT, command).decode()}"
+                                     for command in typed), block)
+
+    def test_the_layout_rules_have_these_places_on_the_whole_page(self):
+        self.assertEqual(set(re.findall(r"\b(5[1-5])(?: [a-z]+)? at ([0-9]+)", PAGE)),
+                         {(number, place) for number, place, _ in WORKED if number != "7"})
+
 
 class Commands(unittest.TestCase):
     """A folder to run the page's commands in."""
@@ -46,8 +98,7 @@ class Commands(unittest.TestCase):
         self.folder = Path(folder.name)
 
     def run_here(self, command):
-        return subprocess.run(["bash", "-c", command], cwd=self.folder, check=True,
-                              stdout=subprocess.PIPE).stdout
+        return run_in(self.folder, command)
 
 
 class Checksums(Commands):
@@ -69,7 +120,7 @@ class Checksums(Commands):
         damaged = samples.SAMPLES["refused-damaged"]
         self.assertEqual(asl.listing(damaged), "refused 6 at 0\n")
         copy = self.mended(damaged)
-        self.assertEqual(asl.listing(copy), "refused 7 at 1\n")
+        self.assertEqual(asl.listing(copy), "refused 7 at 160\n")
         self.assertEqual((copy[:232], copy[240:]), (damaged[:232], damaged[240:]))
 
     def test_every_checksum_is_mended(self):
@@ -87,7 +138,11 @@ SHOWN = {
     "2": "A S L I D X 0 3",
     "3": "3",
     "4": "112" " 1 0 0 0 0 0 0 0 0 0 0 0",
-    "5": "2 112 0 0 208 8 216 1" " 256",
+    "51": "0 0",
+    "52": "2 112" " 0",
+    "53": "208 8" " 2 112",
+    "54": "216" " 208 8",
+    "55": "1" " 216" " 256",
     "6": "db302f5699e0aec5",
     "7": "7 0 0 0 4 0 0 0 208 0 0 0 0 0 0 0 216 0 0 0 0 0 0 0 1 0 0 0 3 0 0 0"
          " 5 0 0 0 1 0 0 0 0 0 0 0 0 0 0 0" " 5 5",
@@ -110,27 +165,26 @@ class Fields(Commands):
         return [word for line in lines for word in (line[:1] if line[-1] == "FILE" else line[1:])]
 
     def test_each_refusal_has_its_fields(self):
-        table = PAGE[PAGE.index("## Which bytes to look at"):]
-        begin = BEGIN.replace("K=1", "K=0").replace("echo $R", ":").strip()
-        found, number = {}, None
-        for named, command in re.findall(r"^\| (?:([0-9]+) )?\| `(.*?)` \|", table, re.MULTILINE):
-            number = named or number
-            found.setdefault(number, []).extend(self.shown(f"{begin}\n{command}"))
-        self.assertEqual({number: " ".join(words) for number, words in found.items()}, SHOWN)
+        found = {number: " ".join(word for command in listed
+                                  for word in self.shown(f"P=112\n{command}"))
+                 for number, listed in commands().items()}
+        self.assertEqual(found, SHOWN)
 
-    def test_where_a_record_begins(self):
-        self.assertEqual(self.run_here(BEGIN), b"160\n")
+    def test_number_of_a_record(self):
+        self.assertEqual(self.run_here(NUMBER), b"1\n")
+        self.assertEqual(self.run_here(NUMBER.replace("160", "112")), b"0\n")
 
     def test_visibilities(self):
         self.assertEqual(self.run_here(VISIBILITIES), b"0000112 1\n0000160 0\n")
 
     def test_keys(self):
-        self.assertEqual(self.run_here("K=1\n" + KEYS), b"0 7 0a 0b 0c 0d\n1 7 0a 0b 0c 0e\n")
+        self.assertEqual(self.run_here("P=160\n" + KEYS),
+                         b"112 7 0a 0b 0c 0d\n160 7 0a 0b 0c 0e\n")
 
     def test_keys_that_stand_twice(self):
         (self.folder / "FILE").write_bytes((samples.FOLDER / "refused-duplicate.asl").read_bytes())
         place = asl.listing((self.folder / "FILE").read_bytes()).split()[-1]
-        lines = self.run_here(f"K={place}\n{KEYS}").decode().splitlines()
+        lines = self.run_here(f"P={place}\n{KEYS}").decode().splitlines()
         keys = [line.split(" ", 1)[1] for line in lines]
         self.assertEqual(keys.count(keys[-1]), 2)
 

@@ -66,10 +66,10 @@ def place_always_0(check):
 
 def duplicate_at_the_earlier(_):
     """Gives the place of the record whose key stands again, in place of where it stands again."""
-    def wrong(items):
+    def wrong(places, items):
         keys = [(item.hash_id, item.digest) for item in items]
         for number, key in enumerate(keys):
-            asl.refuse_if(key in keys[number + 1:], asl.No.DUPLICATE, number)
+            asl.refuse_if(key in keys[number + 1:], asl.No.DUPLICATE, places[number])
     return wrong
 
 
@@ -148,6 +148,101 @@ def unfinished_items_read(finished):
 
 def source_0_listed_as_none(listing):
     return lambda data: listing(data).replace(" 0 0 0\n", " - 0 0\n")
+
+
+# The layout's rules, and places ---------------------------------------------------------------
+
+# The refusals whose place is a record's byte; in write it is an entry's number.
+OF_A_RECORD = (asl.No.RECORD, asl.No.DIGEST, asl.No.EXTENTS, asl.No.TOTAL, asl.No.DUPLICATE)
+
+
+def later_rule_first(later):
+    """Tries this rule of the layout before the one that stands before it."""
+    def make(layout_rules):
+        def wrong(header, file_length):
+            rules = layout_rules(header, file_length)
+            at = [number for _, number, _ in rules].index(later)
+            rules[at - 1:at + 1] = rules[at], rules[at - 1]
+            return rules
+        return wrong
+    return make
+
+
+def layout_before_header(examine_header):
+    def wrong(segment):
+        try:
+            return examine_header(segment)
+        except asl.Refusal as refusal:
+            if refusal.number == asl.No.HEADER:
+                header = asl.Header._make(asl.HEADER.unpack_from(segment))
+                for rule in asl.layout_rules(header, len(segment)):
+                    asl.refuse_if(*rule)
+            raise
+    return wrong
+
+
+def checksum_before_length(examine_header):
+    def wrong(segment):
+        try:
+            return examine_header(segment)
+        except asl.Refusal as refusal:
+            right = asl.crc64(segment[:-asl.FOOTER.size])
+            asl.refuse_if(refusal.number == asl.No.LAYOUT_LENGTH
+                          and asl.footer_of(segment).crc64 != right, asl.No.CHECKSUM)
+            raise
+    return wrong
+
+
+def one_number_for_the_layout(layout_rules):
+    return lambda *arguments: [(broken, 5, 0) for broken, _, _ in layout_rules(*arguments)]
+
+
+def digests_at_their_size(layout_rules):
+    """Refuses 53 at the field that is no multiple of 8, in place of where its fields begin."""
+    return lambda *arguments: [
+        (broken, number, 72 if number == asl.No.LAYOUT_DIGESTS else place)
+        for broken, number, place in layout_rules(*arguments)]
+
+
+def number_of_the_record(_):
+    return lambda header: range(header.record_count)
+
+
+def byte_of_the_section(_):
+    """Counts a record's place from where the records begin."""
+    return lambda header: range(0, asl.RECORD.size * header.record_count, asl.RECORD.size)
+
+
+def byte_without_the_bloom(record_places):
+    return lambda header: [place - header.bloom_size for place in record_places(header)]
+
+
+def number_of_the_record_listed(listing):
+    def wrong(data):
+        text = listing(data)
+        number, place = asl.check(asl.LISTING_TABLE, data)
+        if text.startswith("refused") and number in OF_A_RECORD:
+            return f"refused {number} at {Places(data).records.index(place)}\n"
+        return text
+    return wrong
+
+
+def byte_of_the_entry(write):
+    """Gives the byte at which an entry's record would begin, if it stood where the entry does."""
+    def wrong(table, heading, bloom, *others):
+        number, place, length = write(table, heading, bloom, *others)
+        if number in (*OF_A_RECORD, asl.No.LIST):
+            place = asl.HEADER.size + len(bloom) + asl.RECORD.size * place
+        return number, place, length
+    return wrong
+
+
+def bloom_to_write_at_its_field(write):
+    """Refuses 51 at the header's byte, though there is no header."""
+    def wrong(*arguments):
+        number, place, length = write(*arguments)
+        return number, 48 if number == asl.No.LAYOUT_BLOOM else place, length
+    return wrong
 
 
 # States, steps and lengths --------------------------------------------------------------------
@@ -293,9 +388,9 @@ def step_stops_at_its_record(step):
     """Refuses only what it met on its way: a later record's refusal is not given."""
     def wrong(table, segment, record):
         number, place, given = step(table, segment, record)
-        if asl.No.RECORD <= number <= asl.No.TOTAL and place > record:
-            start = Places(segment).records[record]
-            return 0, 0, asl.Record._make(asl.RECORD.unpack_from(segment, start))
+        starts = Places(segment).records if asl.No.RECORD <= number <= asl.No.TOTAL else []
+        if record < len(starts) and starts[record] < place:
+            return 0, 0, asl.Record._make(asl.RECORD.unpack_from(segment, starts[record]))
         return number, place, given
     return wrong
 
@@ -304,8 +399,9 @@ def step_says_done_when_refused(step):
     """Says done past the last record of a segment that it refuses elsewhere."""
     def wrong(table, segment, record):
         number, place, given = step(table, segment, record)
-        past = number >= asl.No.RECORD and record >= get(segment, 0, HEADER_FIELDS["record count"])
-        return (0, 0, None) if past and number != asl.No.TABLE else (number, place, given)
+        past = record >= get(segment, 0, HEADER_FIELDS["record count"])
+        refused_behind_the_header = asl.No.RECORD <= number <= asl.No.DUPLICATE
+        return (0, 0, None) if past and refused_behind_the_header else (number, place, given)
     return wrong
 
 
@@ -345,6 +441,20 @@ PROGRAMS = {
     "order of signed bytes": (asl, "tidy_order", order_of_signed_bytes),
     "lists wrap": (asl, "passes_the_end", lists_wrap),
     "unfinished items read": (asl, "finished", unfinished_items_read),
+    "52 before 51": (asl, "layout_rules", later_rule_first(asl.No.LAYOUT_RECORDS)),
+    "53 before 52": (asl, "layout_rules", later_rule_first(asl.No.LAYOUT_DIGESTS)),
+    "54 before 53": (asl, "layout_rules", later_rule_first(asl.No.LAYOUT_EXTENTS)),
+    "55 before 54": (asl, "layout_rules", later_rule_first(asl.No.LAYOUT_LENGTH)),
+    "layout before header": (asl, "examine_header", layout_before_header),
+    "checksum before length": (asl, "examine_header", checksum_before_length),
+    "one number for the layout": (asl, "layout_rules", one_number_for_the_layout),
+    "digests at their size": (asl, "layout_rules", digests_at_their_size),
+    "number of the record": (asl, "record_places", number_of_the_record),
+    "byte of the section": (asl, "record_places", byte_of_the_section),
+    "byte without the bloom": (asl, "record_places", byte_without_the_bloom),
+    "number of the record listed": (asl, "listing", number_of_the_record_listed),
+    "byte of the entry": (asl, "write", byte_of_the_entry),
+    "bloom to write at its field": (asl, "write", bloom_to_write_at_its_field),
     "state 0 for absent": (asl, "look_up", state_0_for_absent),
     "room before segment": (case, "look_up_answer", room_before_segment),
     "bytes after the numbers cleared": (case, "answer_in_numbers", bytes_after_the_numbers_cleared),

@@ -3,7 +3,7 @@
   a path        below the root, below crates/, or below a crate that the section's heading or the row names; a file's name
                 alone may stand anywhere below crates/ or tests/. `*` stands for any.
   an edit       CRATE/LABEL, or a label alone. A word in a column of edits is a label, a function of tests/c or a crate.
-  a fixture     of tests/fixtures, without its suffix. `05-..` are all of one number, and (16) after it says how many;
+  a fixture     of tests/fixtures, without its suffix. `51-..` are all of one number, and (9) after it says how many;
                 `-count` is the end of one.
   a function    CRATE::NAME, or TYPE::NAME, which may be a constant
   `..-book`     the end of some definition's name

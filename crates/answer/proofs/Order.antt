@@ -116,7 +116,7 @@ pub some-more : (k : ℕ) (p : ℕ → Bool) → someBelow k p ≡ false → p k
 unfolding someBelow
 some-more k p e q = rw (add-one, e) q
 
-or-right : (a : Bool) {b : Bool} → b ≡ true → (a || b) ≡ true
+pub or-right : (a : Bool) {b : Bool} → b ≡ true → (a || b) ≡ true
 or-right true e = refl
 or-right false e = e
 

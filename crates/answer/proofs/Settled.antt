@@ -1,14 +1,16 @@
 -- An answer's numbers settle it: two refusals with one number and one place are equal, and so are two answers of a service
 -- that say the same in numbers. Each by a function that takes the numbers back.
 -- Assumes nothing.
-use Prim.Native.Nat.{ℕ, zero, suc, _≤_, _<_}
+use Prim.Native.Nat.{ℕ, zero, suc, _≤_}
 use mathlib.Core.Path.{_≡_, refl, sym, ap, ap₂, _∙_}
-use mathlib.Core.Bool.{false, cond}
+use mathlib.Core.Bool.{true, false, cond, _&&_, _||_}
+use mathlib.Core.Logic.{⊎-elim}
 use mathlib.Core.List.{List, [], _∷_}
 use native.Mathlib.Omega.{arith}
-use borrow.Author.Tests.{ne-eqb}
-use lib.Dec.{eqb, lit<}
+use borrow.Author.Tests.{ne-eqb, leb-true}
+use lib.Dec.{eqb, leb}
 use lib.ListN.{length, getD}
+use Rattle.lists.proofs.Tests.{and-iff, or-either}
 use Rattle.answer.specs.declared.Refusal.{Refusal}
 use Rattle.answer.specs.declared.Rule.{Rule}
 use Rattle.answer.specs.declared.Rule.the-variants.{
@@ -16,7 +18,11 @@ use Rattle.answer.specs.declared.Rule.the-variants.{
   Magic,
   Version,
   Header,
-  Layout,
+  LayoutBloom,
+  LayoutRecords,
+  LayoutDigests,
+  LayoutExtents,
+  LayoutLength,
   Checksum,
   Record,
   Digest,
@@ -38,41 +44,57 @@ use Rattle.answer.specs.declared.Found.{Found}
 use Rattle.answer.specs.declared.Found.the-variants.{Absent, Gone, Present, Refused as FoundRefused}
 use Rattle.answer.specs.declared.Written.{Written}
 use Rattle.answer.specs.declared.Written.the-variants.{Done, Refused as WrittenRefused}
-use Rattle.answer.specs.Answers.{ruleNumber, refusal, numberOf, placeOf, Answer, refused, checkAnswer, foundAnswer, writtenAnswer}
+use Rattle.answer.specs.Answers.{ruleNumber, inTable, refusal, numberOf, placeOf, Answer, refused, checkAnswer, foundAnswer, writtenAnswer}
 
 -- the rules, in no order; and the first of some rules that has a number
 rules : List Rule
 rules =
-    Size ∷ Magic ∷ Version ∷ Header ∷ Layout ∷ Checksum ∷ Record ∷ Digest ∷ Extents ∷ Total ∷ Visibility ∷ Duplicate
-    ∷ Room ∷ Table ∷ ListEnd ∷ Large ∷ Key ∷ []
+    Size ∷ Magic ∷ Version ∷ Header ∷ Checksum ∷ Record ∷ Digest ∷ Extents ∷ Total ∷ Visibility ∷ Duplicate ∷ Room ∷ Table
+    ∷ ListEnd ∷ Large ∷ Key ∷ LayoutBloom ∷ LayoutRecords ∷ LayoutDigests ∷ LayoutExtents ∷ LayoutLength ∷ []
 
 numbered : List Rule → ℕ → Rule
 numbered [] n = Size
 numbered (r ∷ rs) n = cond (eqb (ruleNumber r) n) r (numbered rs n)
 
--- a rule's number is its own, and one of the table's; 0 is that of an answer
-ruleNumber-one : (r : Rule) → (numbered rules (ruleNumber r) ≡ r) × (0 < ruleNumber r) × (ruleNumber r < 18)
+-- a rule's number is its own, and one of the table's
+ruleNumber-one : (r : Rule) → (numbered rules (ruleNumber r) ≡ r) × (inTable (ruleNumber r) ≡ true)
 unfolding rules numbered
-ruleNumber-one Size = (refl, lit< tt, lit< tt)
-ruleNumber-one Magic = (refl, lit< tt, lit< tt)
-ruleNumber-one Version = (refl, lit< tt, lit< tt)
-ruleNumber-one Header = (refl, lit< tt, lit< tt)
-ruleNumber-one Layout = (refl, lit< tt, lit< tt)
-ruleNumber-one Checksum = (refl, lit< tt, lit< tt)
-ruleNumber-one Record = (refl, lit< tt, lit< tt)
-ruleNumber-one Digest = (refl, lit< tt, lit< tt)
-ruleNumber-one Extents = (refl, lit< tt, lit< tt)
-ruleNumber-one Total = (refl, lit< tt, lit< tt)
-ruleNumber-one Visibility = (refl, lit< tt, lit< tt)
-ruleNumber-one Duplicate = (refl, lit< tt, lit< tt)
-ruleNumber-one Room = (refl, lit< tt, lit< tt)
-ruleNumber-one Table = (refl, lit< tt, lit< tt)
-ruleNumber-one ListEnd = (refl, lit< tt, lit< tt)
-ruleNumber-one Large = (refl, lit< tt, lit< tt)
-ruleNumber-one Key = (refl, lit< tt, lit< tt)
+ruleNumber-one Size = (refl, refl)
+ruleNumber-one Magic = (refl, refl)
+ruleNumber-one Version = (refl, refl)
+ruleNumber-one Header = (refl, refl)
+ruleNumber-one Checksum = (refl, refl)
+ruleNumber-one Record = (refl, refl)
+ruleNumber-one Digest = (refl, refl)
+ruleNumber-one Extents = (refl, refl)
+ruleNumber-one Total = (refl, refl)
+ruleNumber-one Visibility = (refl, refl)
+ruleNumber-one Duplicate = (refl, refl)
+ruleNumber-one Room = (refl, refl)
+ruleNumber-one Table = (refl, refl)
+ruleNumber-one ListEnd = (refl, refl)
+ruleNumber-one Large = (refl, refl)
+ruleNumber-one Key = (refl, refl)
+ruleNumber-one LayoutBloom = (refl, refl)
+ruleNumber-one LayoutRecords = (refl, refl)
+ruleNumber-one LayoutDigests = (refl, refl)
+ruleNumber-one LayoutExtents = (refl, refl)
+ruleNumber-one LayoutLength = (refl, refl)
 
-pub in-table : (r : Rule) → (1 ≤ ruleNumber r) × (ruleNumber r ≤ 17)
-in-table r = omega (arith, ruleNumber-one r .1, ruleNumber-one r .2)
+pub in-table : (r : Rule) → inTable (ruleNumber r) ≡ true
+in-table r = ruleNumber-one r .1
+
+-- how large the table's numbers are
+between : (low high n : ℕ) → 1 ≤ low → high ≤ 55 → (leb low n && leb n high) ≡ true → (1 ≤ n) × (n ≤ 55)
+between low high n a b e =
+    let p = and-iff (leb low n) (leb n high) .0 e in
+    omega (arith, leb-true low n (p .0), leb-true n high (p .1))
+
+pub table-small : (n : ℕ) → inTable n ≡ true → (1 ≤ n) × (n ≤ 55)
+table-small n e =
+    ⊎-elim (between 1 4 n (omega arith) (omega arith))
+    (λ f. ⊎-elim (between 6 17 n (omega arith) (omega arith)) (between 51 55 n (omega arith) (omega arith)) (or-either (leb 6 n && leb n 17) (leb 51 n && leb n 55) f))
+    (or-either (leb 1 n && leb n 4) ((leb 6 n && leb n 17) || (leb 51 n && leb n 55)) e)
 
 pub refusalOf : ℕ → ℕ → Refusal
 refusalOf n p = refusal (numbered rules n) p
@@ -86,7 +108,7 @@ refusal-settled q r e f = sym (refusal-back q) ∙ ap₂ refusalOf e f ∙ refus
 
 -- no refusal has the number of an answer
 pub not-answered : (r : Refusal) → eqb (numberOf r) 0 ≡ false
-not-answered r = ne-eqb (numberOf r) 0 (λ e. omega (arith, in-table (r .0)))
+not-answered r = ne-eqb (numberOf r) 0 (λ e. omega (arith, table-small (numberOf r) (in-table (r .0))))
 
 -- a service's answer from its numbers: where the number is 0, what the values make of it
 unfoldable pub taken : {A : Type 0} → (Refusal → A) → (List ℕ → A) → Answer → A

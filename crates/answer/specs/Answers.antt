@@ -1,12 +1,15 @@
 -- docs/SERVICES.md, "Refusals": the number and the place of each, and what each service's answer says in numbers.
 --   ruleNumber             the number of each rule
+--   inTable                whether a number is one of them
 --   refusal                a rule that is broken at a place
 --   numberOf, placeOf      of a refusal
 --   Answer                 what a call gives back: 0 or the refusal's number, its place, and the values of an answer
 --   checkAnswer, foundAnswer, writtenAnswer   of each case of what check, look up, and write and tidy answer
 -- Assumes nothing.
 use Prim.Native.Nat.{ℕ}
+use mathlib.Core.Bool.{Bool, _&&_, _||_}
 use mathlib.Core.List.{List, [], _∷_, _++_}
+use lib.Dec.{leb}
 use Rattle.answer.specs.declared.Refusal.{Refusal}
 use Rattle.answer.specs.declared.Rule.{Rule}
 use Rattle.answer.specs.declared.Rule.the-variants.{
@@ -14,7 +17,11 @@ use Rattle.answer.specs.declared.Rule.the-variants.{
   Magic,
   Version,
   Header,
-  Layout,
+  LayoutBloom,
+  LayoutRecords,
+  LayoutDigests,
+  LayoutExtents,
+  LayoutLength,
   Checksum,
   Record,
   Digest,
@@ -42,7 +49,6 @@ ruleNumber Size = 1
 ruleNumber Magic = 2
 ruleNumber Version = 3
 ruleNumber Header = 4
-ruleNumber Layout = 5
 ruleNumber Checksum = 6
 ruleNumber Record = 7
 ruleNumber Digest = 8
@@ -55,8 +61,17 @@ ruleNumber Table = 14
 ruleNumber ListEnd = 15
 ruleNumber Large = 16
 ruleNumber Key = 17
+ruleNumber LayoutBloom = 51
+ruleNumber LayoutRecords = 52
+ruleNumber LayoutDigests = 53
+ruleNumber LayoutExtents = 54
+ruleNumber LayoutLength = 55
 
--- a rule that is broken at a place. Which place is said where the rule stands: a record's for 7 to 10, 12 and 15, otherwise 0
+-- the numbers of the table. 5 is given no more: 51 to 55 stand for it
+abbrev pub inTable : ℕ → Bool
+inTable n = (leb 1 n && leb n 4) || ((leb 6 n && leb n 17) || (leb 51 n && leb n 55))
+
+-- a rule that is broken at a place. Which place is said where the rule stands
 abbrev pub refusal : Rule → ℕ → Refusal
 refusal rule place = record { 0 = rule; 1 = place }
 

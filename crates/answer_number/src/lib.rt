@@ -13,7 +13,6 @@ pub fn number(r: Refusal) -> u64
         Rule::Magic => 2,
         Rule::Version => 3,
         Rule::Header => 4,
-        Rule::Layout => 5,
         Rule::Checksum => 6,
         Rule::Record => 7,
         Rule::Digest => 8,
@@ -26,6 +25,11 @@ pub fn number(r: Refusal) -> u64
         Rule::List => 15,
         Rule::Large => 16,
         Rule::Key => 17,
+        Rule::LayoutBloom => 51,
+        Rule::LayoutRecords => 52,
+        Rule::LayoutDigests => 53,
+        Rule::LayoutExtents => 54,
+        Rule::LayoutLength => 55,
     }
 }
 

@@ -1,4 +1,4 @@
--- What the services answer fits the value of an answer: lengths are at most one GiB, and places those of records and entries.
+-- What the services answer fits the value of an answer: lengths are at most one GiB, places in a file are below that, and others those of entries.
 -- Assumes nothing.
 use Prim.Native.Nat.{ℕ, _≤_, _<_}
 use mathlib.Core.Path.{_≡_, refl, sym, ap, subst, _∙_}
@@ -35,7 +35,6 @@ use Rattle.segment.specs.Tidy.{Outcome, outcome, tidyForm, roomVerdict, settled
 use Rattle.segment.specs.Write.{Request, requestRules, requestVerdict, wrote, writeOf}
 use Rattle.segment.proofs.Shapes.{v3-shaped}
 use Rattle.segment.proofs.Found.{never-refused}
-use Rattle.check_book.proofs.TablesHeader.{layout-book}
 use Rattle.check_book.proofs.Places.{table-placed, segment-placed}
 use Rattle.write_book.proofs.Places.{request-placed}
 use Rattle.c_answer.specs.Boundary.{Small, valueLimit}
@@ -44,7 +43,7 @@ some : 0 < valueLimit
 some = lit< tt
 
 under-placed : (pairs s : List ℕ) → Placed valueLimit (segmentVerdict v3 pairs s)
-under-placed pairs s = segment-placed some v3 pairs s (λ laid k l. omega (arith, layout-book v3 v3-shaped s (headerOf s) .0 laid .few))
+under-placed pairs s = segment-placed (lit< tt) v3 v3-shaped pairs s
 
 check-placed : (pairs s : List ℕ) → Placed valueLimit (checked pairs s)
 unfolding checked

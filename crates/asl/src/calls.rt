@@ -16,11 +16,11 @@ use segment::header::Heading;
 use segment::step::Step;
 
 // The version of this interface: major, minor and patch, from the fifth, the third and the first byte on.
-pub const VERSION: u64 = 0x0000_0002_0000_0000;
+pub const VERSION: u64 = 0x0000_0003_0000_0000;
 
 #[no_mangle]
 pub extern "C" fn asl_raw_version() -> u64
-    ensures { λ r. ⌜ r ≡ 8589934592 ⌝ }
+    ensures { λ r. ⌜ r ≡ 12884901888 ⌝ }
 {
     VERSION
 }

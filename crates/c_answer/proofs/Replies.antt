@@ -22,7 +22,7 @@ use Rattle.answer.specs.declared.Found.the-variants.{Absent, Gone, Present, Ref
 use Rattle.answer.specs.declared.Written.{Written}
 use Rattle.answer.specs.declared.Written.the-variants.{Done, Refused as NotWritten}
 use Rattle.answer.specs.Answers.{ruleNumber, refusal, numberOf, placeOf, refused, writtenAnswer}
-use Rattle.answer.proofs.Settled.{in-table, not-answered}
+use Rattle.answer.proofs.Settled.{in-table, table-small, not-answered}
 use Rattle.lists.proofs.Tests.{tests}
 use Rattle.c_answer.specs.declared.Reply.{Reply}
 use Rattle.c_answer.specs.Boundary.{
@@ -96,7 +96,7 @@ state-small (Refused r) = lit< tt
 
 -- a refusal's number has a byte
 pub rule-small : (q : Rule) → ruleNumber q < 256
-rule-small q = omega (arith, in-table q)
+rule-small q = omega (arith, table-small (ruleNumber q) (in-table q))
 
 number-small : (f : Found) → replyOf f .number < 256
 unfolding replyOf

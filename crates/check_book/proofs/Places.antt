@@ -1,8 +1,9 @@
--- Where check refuses: at 0, or at the place of a record that is there.
+-- Where check refuses: at 0, at a field of the header, or where a record begins that is there.
 -- Assumes nothing.
-use Prim.Native.Nat.{ℕ, _<_}
+use Prim.Native.Nat.{ℕ, _≤_, _<_}
 use mathlib.Core.Path.{_≡_}
 use mathlib.Core.List.{List}
+use native.Mathlib.Omega.{arith}
 use lib.ListN.{length}
 use Rattle.answer.specs.declared.Verdict.the-variants.{Accepted}
 use Rattle.answer.specs.Rules.{_then_, firstOver}
@@ -11,14 +12,19 @@ use Rattle.table.specs.Table.{tableVerdict}
 use Rattle.segment.specs.declared.header.Header.{Header}
 use Rattle.segment.specs.declared.record.Record.{Record}
 use Rattle.segment.specs.declared.shape.Shape.{Shape}
-use Rattle.segment.specs.Format.{headerOf, recordCount, recordNo}
+use Rattle.segment.specs.Format.{headerSize, fileLimit, headerOf, recordCount, recordAt, recordNo}
+use Rattle.segment.specs.Shapes.{Shaped}
 use Rattle.key.proofs.Duplicates.{fresh-placed}
 use Rattle.segment.specs.Check.{
   sizeVerdict,
   headVerdict,
+  bloomLaid,
+  recordsLaid,
+  digestsLaid,
+  extentsLaid,
+  lengthLaid,
   layoutVerdict,
   checksumVerdict,
-  recordPlace,
   marksVerdict,
   digestVerdict,
   goneExtents,
@@ -33,6 +39,8 @@ use Rattle.segment.specs.Check.{
   segmentRules,
   segmentVerdict,
 }
+use Rattle.check_book.proofs.TablesHeader.{size-book, layout-book}
+use Rattle.check_book.proofs.Readable.{record-inside}
 
 module _ {b : ℕ} (z : 0 < b) where
   pub table-placed : (pairs : List ℕ) → Placed b (tableVerdict pairs)
@@ -47,10 +55,6 @@ module _ {b : ℕ} (z : 0 < b) where
   unfolding headVerdict
   head-placed sh h = search placed-rows depth 9
 
-  layout-placed : (sh : Shape) (h : Header) (n : ℕ) → Placed b (layoutVerdict sh h n)
-  unfolding layoutVerdict
-  layout-placed sh h n = search placed-rows depth 10
-
   checksum-placed : (s : List ℕ) → Placed b (checksumVerdict s)
   unfolding checksumVerdict
   checksum-placed s = search placed-rows
@@ -58,6 +62,17 @@ module _ {b : ℕ} (z : 0 < b) where
   visibility-placed : (sh : Shape) (s : List ℕ) (h : Header) → Placed b (visibilityVerdict sh s h)
   unfolding visibilityVerdict
   visibility-placed sh s h = search placed-rows
+
+-- a layout rule refuses at its fields, which lie in the header
+layout-placed : {b : ℕ} → headerSize ≤ b → (sh : Shape) (h : Header) (n : ℕ) → Placed b (layoutVerdict sh h n)
+unfolding layoutVerdict bloomLaid recordsLaid digestsLaid extentsLaid lengthLaid
+layout-placed {b} l sh h n =
+    let bloom : 48 < b = omega arith in
+    let records : 32 < b = omega arith in
+    let digests : 64 < b = omega arith in
+    let extents : 80 < b = omega arith in
+    let count : 88 < b = omega arith in
+    search placed-rows depth 10
 
 module _ {b : ℕ} (sh : Shape) (pairs s : List ℕ) (h : Header) (r : Record) (p : ℕ) (l : p < b) where
   marks-placed : Placed b (marksVerdict h r p)
@@ -80,17 +95,25 @@ module _ {b : ℕ} (sh : Shape) (pairs s : List ℕ) (h : Header) (r : Record) (
   unfolding recordRules
   record-placed = placed-then marks-placed (placed-then digest-placed (placed-then extents-placed total-placed))
 
--- where the records of a laid out segment have their places below the bound
-pub segment-placed : {b : ℕ} → 0 < b → (sh : Shape) (pairs s : List ℕ)
-    → (layoutVerdict sh (headerOf s) (length s) ≡ Accepted → (k : ℕ) → k < recordCount (headerOf s) → recordPlace sh (headerOf s) k < b)
-    → Placed b (segmentVerdict sh pairs s)
+-- a record of a segment that is sized and laid out begins inside it
+record-below : {b : ℕ} → fileLimit < b → (sh : Shape) → Shaped sh → (s : List ℕ) → sizeVerdict (length s) ≡ Accepted
+    → layoutVerdict sh (headerOf s) (length s) ≡ Accepted → (k : ℕ) → k < recordCount (headerOf s) → recordAt sh (headerOf s) k < b
+record-below l sh w s sized laid k i =
+    let most = size-book s .0 sized .most in
+    let here = record-inside (record { shaped = w; layout = layout-book sh w s (headerOf s) .0 laid; most = most }) k i in
+    omega arith
+
+-- so every place is below a bound that is above the largest file
+pub segment-placed : {b : ℕ} → fileLimit < b → (sh : Shape) → Shaped sh → (pairs s : List ℕ) → Placed b (segmentVerdict sh pairs s)
 unfolding segmentVerdict segmentRules recordVerdict
-segment-placed z sh pairs s within =
+segment-placed {b} l sh w pairs s =
     let h : Header = headerOf s in
-    placed-then (size-placed z (length s))
-    (placed-then (head-placed z sh h)
-    (placed-after _ (layout-placed z sh h (length s)) (λ laid.
+    let z : 0 < b = omega arith in
+    placed-after _ (size-placed z (length s)) (λ sized.
+    placed-then (head-placed z sh h)
+    (placed-after _ (layout-placed (omega arith) sh h (length s)) (λ laid.
+    let within = record-below l sh w s sized laid in
     placed-then (checksum-placed z s)
-    (placed-then (placed-first (recordCount h) _ (λ k l. record-placed sh pairs s h (recordNo sh s h k) (recordPlace sh h k) (within laid k l)))
+    (placed-then (placed-first (recordCount h) _ (λ k i. record-placed sh pairs s h (recordNo sh s h k) (recordAt sh h k) (within k i)))
     (placed-then (visibility-placed z sh s h)
-    (placed-first (recordCount h) _ (λ k l. fresh-placed (keyNo sh s h) (recordPlace sh h) k (within laid k l))))))))
+    (placed-first (recordCount h) _ (λ k i. fresh-placed (keyNo sh s h) (recordAt sh h) k (within k i))))))))

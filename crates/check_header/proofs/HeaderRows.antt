@@ -11,14 +11,24 @@ use lib.Dec.{eqb}
 use lib.ListN.{length, take}
 use Rattle.numbers.specs.Numbers.{numAt}
 use Rattle.crc64.specs.Crc.{crc}
-use Rattle.answer.specs.declared.Rule.the-variants.{Magic, Version, Header as HeaderWrong, Layout, Checksum}
+use Rattle.answer.specs.declared.Rule.the-variants.{
+  Magic,
+  Version,
+  Header as HeaderWrong,
+  LayoutBloom,
+  LayoutRecords,
+  LayoutDigests,
+  LayoutExtents,
+  LayoutLength,
+  Checksum,
+}
 use Rattle.answer.specs.Answers.{refusal}
 use Rattle.answer.specs.declared.Verdict.the-variants.{Accepted, Refused}
 use Rattle.lists.proofs.Tests.{tests, by-test, was-true, was-false}
 use Rattle.segment.specs.declared.header.Header.{Header}
 use Rattle.segment.specs.declared.shape.Shape.{Shape}
 use Rattle.segment.specs.Format.{recordCount, recordsOffset, bloomOffset, bloomSize, digestsOffset, digestsSize, extentsOffset, extentCount, footerOf}
-use Rattle.segment.specs.Check.{headVerdict, bloomPlace, layoutVerdict, checksumVerdict}
+use Rattle.segment.specs.Check.{headVerdict, bloomPlace, bloomLaid, recordsLaid, digestsLaid, extentsLaid, lengthLaid, layoutVerdict, checksumVerdict}
 use Rattle.segment.specs.Meets.{HeaderMeets}
 use Rattle.check_book.proofs.TablesHeader.{magic-broken, version-broken, header-book, header-broken}
 
@@ -85,50 +95,50 @@ module _ (n extents count : ℕ) where
   pub counted : 24 ≤ n → extents ≤ n - 24 → (n - 24 - extents) % 16 ≡ 0 → eqb ((n - 24 - extents) / 16) count ≡ eqb n (extents + 16 * count + 24)
   counted l m h = same-test ((n - 24 - extents) / 16) count n (extents + 16 * count + 24) (λ e. omega arith) (λ e. omega arith)
 
--- ---- 5
+-- ---- 51 to 55
 
 module _ (sh : Shape) (h : Header) (n : ℕ) (place : ℕ) (p : place ≡ bloomPlace (bloomSize h)) where
-  pub layout-bloom : (bloomOffset h ≡ place → ⊥) → Refused (refusal Layout 0) ≡ layoutVerdict sh h n
-  unfolding layoutVerdict
+  pub layout-bloom : (bloomOffset h ≡ place → ⊥) → Refused (refusal LayoutBloom 48) ≡ layoutVerdict sh h n
+  unfolding layoutVerdict bloomLaid recordsLaid digestsLaid extentsLaid lengthLaid
   layout-bloom b = rw (← p) (simp tests)
 
   module _ (b : bloomOffset h ≡ place) where
-    pub layout-bloom-size : (bloomSize h % 8 ≡ 0 → ⊥) → Refused (refusal Layout 0) ≡ layoutVerdict sh h n
-    unfolding layoutVerdict
+    pub layout-bloom-size : (bloomSize h % 8 ≡ 0 → ⊥) → Refused (refusal LayoutBloom 48) ≡ layoutVerdict sh h n
+    unfolding layoutVerdict bloomLaid recordsLaid digestsLaid extentsLaid lengthLaid
     layout-bloom-size z = rw (← p) (simp tests)
 
     module _ (z : bloomSize h % 8 ≡ 0) where
-      pub layout-count : 65536 < recordCount h → Refused (refusal Layout 0) ≡ layoutVerdict sh h n
-      unfolding layoutVerdict
+      pub layout-count : 65536 < recordCount h → Refused (refusal LayoutRecords 32) ≡ layoutVerdict sh h n
+      unfolding layoutVerdict bloomLaid recordsLaid digestsLaid extentsLaid lengthLaid
       layout-count c = rw (← p) (simp tests)
 
       module _ (c : recordCount h ≤ 65536) (t₁ : Bool) (e₁ : t₁ ≡ eqb (recordsOffset h) (112 + bloomSize h)) where
-        pub layout-records : not t₁ ≡ true → Refused (refusal Layout 0) ≡ layoutVerdict sh h n
-        unfolding layoutVerdict
+        pub layout-records : not t₁ ≡ true → Refused (refusal LayoutRecords 32) ≡ layoutVerdict sh h n
+        unfolding layoutVerdict bloomLaid recordsLaid digestsLaid extentsLaid lengthLaid
         layout-records f = rw (← p) (simp (tests, was-false e₁ f))
 
         module _ (f₁ : not t₁ ≡ false) (t₂ : Bool) (e₂ : t₂ ≡ eqb (digestsOffset h) (recordsOffset h + sh .«record_size» * recordCount h)) where
-          pub layout-digests : not t₂ ≡ true → Refused (refusal Layout 0) ≡ layoutVerdict sh h n
-          unfolding layoutVerdict
+          pub layout-digests : not t₂ ≡ true → Refused (refusal LayoutDigests 64) ≡ layoutVerdict sh h n
+          unfolding layoutVerdict bloomLaid recordsLaid digestsLaid extentsLaid lengthLaid
           layout-digests f = rw (← p) (simp (tests, was-true e₁ f₁, was-false e₂ f))
 
           module _ (f₂ : not t₂ ≡ false) where
-            pub layout-digests-size : (digestsSize h % 8 ≡ 0 → ⊥) → Refused (refusal Layout 0) ≡ layoutVerdict sh h n
-            unfolding layoutVerdict
+            pub layout-digests-size : (digestsSize h % 8 ≡ 0 → ⊥) → Refused (refusal LayoutDigests 64) ≡ layoutVerdict sh h n
+            unfolding layoutVerdict bloomLaid recordsLaid digestsLaid extentsLaid lengthLaid
             layout-digests-size d = rw (← p) (simp (tests, was-true e₁ f₁, was-true e₂ f₂))
 
             module _ (d : digestsSize h % 8 ≡ 0) (t₃ : Bool) (e₃ : t₃ ≡ eqb (extentsOffset h) (digestsOffset h + digestsSize h)) where
-              pub layout-extents : not t₃ ≡ true → Refused (refusal Layout 0) ≡ layoutVerdict sh h n
-              unfolding layoutVerdict
+              pub layout-extents : not t₃ ≡ true → Refused (refusal LayoutExtents 80) ≡ layoutVerdict sh h n
+              unfolding layoutVerdict bloomLaid recordsLaid digestsLaid extentsLaid lengthLaid
               layout-extents f = rw (← p) (simp (tests, was-true e₁ f₁, was-true e₂ f₂, was-false e₃ f))
 
               module _ (f₃ : not t₃ ≡ false) (t₄ : Bool) (e₄ : t₄ ≡ eqb n (extentsOffset h + 16 * extentCount h + 24)) where
-                pub layout-file : not t₄ ≡ true → Refused (refusal Layout 0) ≡ layoutVerdict sh h n
-                unfolding layoutVerdict
+                pub layout-file : not t₄ ≡ true → Refused (refusal LayoutLength 88) ≡ layoutVerdict sh h n
+                unfolding layoutVerdict bloomLaid recordsLaid digestsLaid extentsLaid lengthLaid
                 layout-file f = rw (← p) (simp (tests, was-true e₁ f₁, was-true e₂ f₂, was-true e₃ f₃, was-false e₄ f))
 
                 pub layout-accepted : not t₄ ≡ false → Accepted ≡ layoutVerdict sh h n
-                unfolding layoutVerdict
+                unfolding layoutVerdict bloomLaid recordsLaid digestsLaid extentsLaid lengthLaid
                 layout-accepted f = rw (← p) (simp (tests, was-true e₁ f₁, was-true e₂ f₂, was-true e₃ f₃, was-true e₄ f))
 
 pub ruleset layout-rows = (

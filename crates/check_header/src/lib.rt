@@ -1,4 +1,4 @@
-// The header's rules: 2, 3, 4 and 5, and the checksum, 6. Sums are compared by taking parts away, so nothing wraps.
+// The header's rules: 2, 3, 4 and 51 to 55, and the checksum, 6. Sums are compared by taking parts away, so nothing wraps.
 ghost use mathlib.Core.Path.{_≡_};
 ghost use Prim.Native.Nat.{_+_, _*_, _≤_};
 ghost use lib.Dec.{eqb};
@@ -11,6 +11,7 @@ use answer::Refusal;
 use answer::Rule;
 use answer::Verdict;
 use field_frame::footer;
+use field_frame::header as fields;
 use offset::FileOffset;
 use segment::extent::Extent;
 use segment::footer::Footer;
@@ -73,42 +74,43 @@ fn ends_so(n: u64, extents: FileOffset, count: u64) -> bool
     rest / Extent::LONG == count
 }
 
+// Each rule is refused at the byte of the header at which its fields begin.
 fn check_layout(sh: Shape, h: Header, n: u64) -> Verdict
     requires { ⌜ Shaped sh ⌝ }
     ensures { λ r. ⌜ r ≡ layoutVerdict sh h n ⌝ }
 {
     if h.bloom_offset.0 != header::bloom_place(h.bloom_size).0 {
-        return Verdict::Refused(Refusal(Rule::Layout, 0));
+        return Verdict::Refused(Refusal(Rule::LayoutBloom, fields::BLOOM_OFFSET as u64));
     }
     if h.bloom_size % 8 != 0 {
-        return Verdict::Refused(Refusal(Rule::Layout, 0));
+        return Verdict::Refused(Refusal(Rule::LayoutBloom, fields::BLOOM_OFFSET as u64));
     }
     if segment::MOST_RECORDS < h.record_count {
-        return Verdict::Refused(Refusal(Rule::Layout, 0));
+        return Verdict::Refused(Refusal(Rule::LayoutRecords, fields::RECORD_COUNT as u64));
     }
     if !follows(h.records_offset, FileOffset(Header::LONG), h.bloom_size) {
-        return Verdict::Refused(Refusal(Rule::Layout, 0));
+        return Verdict::Refused(Refusal(Rule::LayoutRecords, fields::RECORD_COUNT as u64));
     }
     if !follows(
         h.digests_offset,
         h.records_offset,
         sh.record_size as u64 * h.record_count,
     ) {
-        return Verdict::Refused(Refusal(Rule::Layout, 0));
+        return Verdict::Refused(Refusal(Rule::LayoutDigests, fields::DIGESTS_OFFSET as u64));
     }
     if h.digests_size % 8 != 0 {
-        return Verdict::Refused(Refusal(Rule::Layout, 0));
+        return Verdict::Refused(Refusal(Rule::LayoutDigests, fields::DIGESTS_OFFSET as u64));
     }
     if !follows(h.extents_offset, h.digests_offset, h.digests_size) {
-        return Verdict::Refused(Refusal(Rule::Layout, 0));
+        return Verdict::Refused(Refusal(Rule::LayoutExtents, fields::EXTENTS_OFFSET as u64));
     }
     if !ends_so(n, h.extents_offset, h.extent_count) {
-        return Verdict::Refused(Refusal(Rule::Layout, 0));
+        return Verdict::Refused(Refusal(Rule::LayoutLength, fields::EXTENT_COUNT as u64));
     }
     Verdict::Accepted
 }
 
-// 2 to 5, of a file of n bytes.
+// 2 to 4 and 51 to 55, of a file of n bytes.
 pub fn check_header(sh: Shape, h: Header, n: u64) -> Verdict
     requires { ⌜ Shaped sh ⌝ }
     ensures { λ r. ⌜ r ≡ headerRules sh h n ⌝ }

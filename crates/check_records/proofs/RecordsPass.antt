@@ -13,8 +13,8 @@ use Rattle.answer.proofs.Order.{then-assoc, first-none, first-more, first-refus
 use Rattle.segment.specs.declared.header.Header.{Header}
 use Rattle.segment.specs.declared.record.Record.{Record}
 use Rattle.segment.specs.declared.shape.Shape.{Shape}
-use Rattle.segment.specs.Format.{recordOf, recordNo, recordAt, recordsOffset}
-use Rattle.segment.specs.Check.{placeFrom, marksVerdict, digestVerdict, extentsVerdict, totalVerdict, recordRules, recordVerdict, largestBelow, visibilityNo}
+use Rattle.segment.specs.Format.{recordOf, recordNo, recordAt}
+use Rattle.segment.specs.Check.{marksVerdict, digestVerdict, extentsVerdict, totalVerdict, recordRules, recordVerdict, largestBelow, visibilityNo}
 use Rattle.check_extents.specs.ExtentRules.{slicesRules}
 use Rattle.check_records.specs.declared.Passed.the-variants.{Largest, Refused as NotPassed}
 use Rattle.check_records.specs.RecordsPassed.{identityRules, passed}
@@ -53,7 +53,7 @@ unfolding largestBelow
 pass-start sh pairs s h = record { accepted = first-none (recordVerdict sh pairs s h); shown = refl }
 
 module _ (sh : Shape) (pairs s : List ℕ) (h : Header) (k largest : ℕ) (r : Record) (p : Passing sh pairs s h k largest) (q : r ≡ recordOf sh s (recordAt sh h k))
-    (at : ℕ) (w : at ≡ placeFrom sh (recordsOffset h) k) where
+    (at : ℕ) (w : at ≡ recordAt sh h k) where
   here : recordRules sh pairs s h r at ≡ recordVerdict sh pairs s h k
   unfolding recordVerdict recordNo
   here = rw (q, w)

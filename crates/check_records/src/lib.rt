@@ -128,7 +128,7 @@ pub fn check_records(sh: Shape, pairs: &[u64], seg: &[u8], h: Header) -> Passed
     let mut k = 0;
     while k < count {
         let r = record::nth_record(sh, seg, first, k);
-        match check_record(sh, pairs, seg, h, r, record::place_of(sh, first, k)) {
+        match check_record(sh, pairs, seg, h, r, record::begins(sh, first, k).0) {
             Verdict::Refused(x) => {
                 return Passed::Refused(x);
             }

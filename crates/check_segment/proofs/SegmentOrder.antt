@@ -16,9 +16,9 @@ use Rattle.lists.proofs.Tests.{tests}
 use Rattle.answer.proofs.Order.{then-assoc}
 use Rattle.segment.specs.declared.header.Header.{Header}
 use Rattle.segment.specs.declared.shape.Shape.{Shape}
-use Rattle.segment.specs.Format.{v3, headerOf, recordNo, recordCount}
+use Rattle.segment.specs.Format.{v3, headerOf, recordAt, recordNo, recordCount}
 use Rattle.table.specs.Table.{goodTable, tableVerdict}
-use Rattle.segment.specs.Check.{sizeVerdict, headVerdict, layoutVerdict, checksumVerdict, segmentRules, segmentVerdict, checked, checkOf, recordVerdict, largestBelow, visibilityNo, visibilityVerdict, digestIn, keyNo, recordPlace}
+use Rattle.segment.specs.Check.{sizeVerdict, headVerdict, layoutVerdict, checksumVerdict, segmentRules, segmentVerdict, checked, checkOf, recordVerdict, largestBelow, visibilityNo, visibilityVerdict, digestIn, keyNo}
 use Rattle.segment.specs.Keys.{freshKey}
 use Rattle.key.specs.declared.Kind.the-variants.{Records}
 use Rattle.key.specs.Items.{itemKey, itemHash, itemDigest, itemSpan, itemPlace, recordSpan}
@@ -31,7 +31,7 @@ use Rattle.check_segment.specs.SegmentParts.{contentsVerdict, bodyRules}
 
 -- the keys of the records, as items and as records
 same-keys : (sh : Shape) (s list : List ℕ) (h : Header) (n : ℕ)
-    → firstOver n (freshKey (itemKey (Records (h .«records_offset») sh) s list) (itemPlace (Records (h .«records_offset») sh))) ≡ firstOver n (freshKey (keyNo sh s h) (recordPlace sh h))
+    → firstOver n (freshKey (itemKey (Records (h .«records_offset») sh) s list) (itemPlace (Records (h .«records_offset») sh))) ≡ firstOver n (freshKey (keyNo sh s h) (recordAt sh h))
 unfolding itemKey itemPlace itemHash itemDigest itemSpan recordSpan keyNo digestIn recordNo
 same-keys sh s list h n = refl
 

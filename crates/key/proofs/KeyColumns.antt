@@ -1,6 +1,6 @@
 -- What each kind of source says of an item: where it stands, its hash id, and where its digest lies.
 -- Assumes nothing.
-use Prim.Native.Nat.{ℕ, _+_, _-_, _*_, _≤_}
+use Prim.Native.Nat.{ℕ, _+_, _-_, _*_, _≤_, _<_}
 use mathlib.Core.Path.{_≡_, subst}
 use mathlib.Core.List.{List}
 use native.Mathlib.Omega.{arith}
@@ -10,7 +10,6 @@ use Rattle.offset.specs.declared.FileOffset.{FileOffset}
 use Rattle.segment.specs.declared.shape.Shape.{Shape}
 use Rattle.segment.specs.Format.{entrySize, recordFrom, recordOf}
 use Rattle.segment.specs.declared.entry.Entry.{Entry}
-use Rattle.segment.specs.Check.{placeFrom}
 use Rattle.segment.proofs.Shapes.{shaped-least}
 use Rattle.segment.specs.Write.{entryNo, entryPlace}
 use Rattle.key.specs.declared.Kind.{Kind}
@@ -63,10 +62,20 @@ module _ (kind : Kind) (bytes list : List ℕ) (k : ℕ) where
 
 -- ---- where it is refused
 
-pub record-place : (kind : Kind) (k : ℕ) (first : FileOffset) (sh : Shape) {r : ℕ} → kind ≡ Records first sh → r ≡ placeFrom sh (first .0) k → r ≡ itemPlace kind k
+pub record-place : (kind : Kind) (k : ℕ) (first : FileOffset) (sh : Shape) {r : ℕ} → kind ≡ Records first sh → r ≡ recordFrom sh (first .0) k → r ≡ itemPlace kind k
 unfolding itemPlace
 record-place kind k first sh e h = rw e h
+
+pub record-begins : (kind : Kind) (k : ℕ) (first : FileOffset) (sh : Shape) {bound : ℕ} → kind ≡ Records first sh → itemPlace kind k < bound → recordFrom sh (first .0) k < bound
+unfolding itemPlace
+record-begins kind k first sh e l = rw e at l
 
 pub entry-place : (kind : Kind) (k : ℕ) {r : ℕ} → kind ≡ Entries → r ≡ entryPlace k → r ≡ itemPlace kind k
 unfolding itemPlace
 entry-place kind k e h = rw e h
+
+-- an item that stands there has a place that fits
+pub place-fits : (kind : Kind) (bytes list : List ℕ) (k : ℕ) {bound : ℕ} → Item kind bytes list k → length bytes < bound → k < bound → itemPlace kind k < bound
+unfolding itemPlace Stands
+place-fits (Records first sh) bytes list k i l m = omega (arith, i .stands .inside)
+place-fits Entries bytes list k i l m = m

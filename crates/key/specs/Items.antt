@@ -15,7 +15,6 @@ use Rattle.segment.specs.Format.{entrySize, recordFrom, recordOf}
 use Rattle.segment.specs.Shapes.{Shaped}
 use Rattle.segment.specs.declared.entry.Entry.{Entry}
 use Rattle.segment.specs.Keys.{keyOf, keyFrom}
-use Rattle.segment.specs.Check.{placeFrom}
 use Rattle.segment.specs.Write.{entryNo, entryPlace}
 use Rattle.key.specs.declared.Kind.{Kind}
 use Rattle.key.specs.declared.Kind.the-variants.{Records, Entries}
@@ -46,9 +45,9 @@ itemHead kind bytes list k = record { «hash_id» = itemHash kind bytes list k }
 unfoldable pub itemKey : Kind → List ℕ → List ℕ → ℕ → List ℕ
 itemKey kind bytes list k = keyOf (keyFrom (itemHash kind bytes list k) (itemDigest kind bytes list k))
 
--- the place of a refusal of an item
+-- the place of a refusal of an item: the byte at which a record begins, the number of an entry
 unfoldable pub itemPlace : Kind → ℕ → ℕ
-itemPlace (Records first sh) k = placeFrom sh (first .0) k
+itemPlace (Records first sh) k = recordFrom sh (first .0) k
 itemPlace Entries k = entryPlace k
 
 -- a record stands in the bytes

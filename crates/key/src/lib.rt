@@ -1,7 +1,7 @@
 // Keys of items, over two kinds of source: the records of a segment, and the entries that write is lent. Both kinds have their
 // digests in a run of bytes. One function for each column knows the kinds; nothing above it does.
 ghost use mathlib.Core.Path.{_≡_};
-ghost use Prim.Native.Nat.{_+_, _≤_};
+ghost use Prim.Native.Nat.{_+_, _≤_, _<_};
 ghost use lib.ListN.{length};
 ghost use Rattle.segment.specs.Format.{leastRecord};
 ghost use Rattle.key.specs.Items.{recordSpan, entrySpan, Item, itemHash, itemHead, itemSpan, itemDigest, itemPlace};
@@ -89,10 +89,11 @@ pub fn digest<'a>(kind: Kind, bytes: &'a [u8], list: &[u64], k: usize) -> &'a [u
 
 // The place of a refusal of an item.
 pub fn place_of(kind: Kind, k: usize) -> u64
+    requires { ⌜ itemPlace kind k < 18446744073709551616 ⌝ }
     ensures { λ r. ⌜ r ≡ itemPlace kind k ⌝ }
 {
     match kind {
-        Kind::Records(first, sh) => record::place_of(sh, first, k),
+        Kind::Records(first, sh) => record::begins(sh, first, k).0,
         Kind::Entries => segment::entry::place_of(k),
     }
 }

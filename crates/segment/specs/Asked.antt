@@ -48,7 +48,7 @@ pub record Asked (sh : Shape) (pairs digests extents : List ℕ) (e : Entry) : T
   pub places : PlacesAsked e
   pub total : TotalAsked sh (entryExtents extents e)
 
--- 16 for the count, 5, each entry, and 12
+-- 16 for the count, 51, each entry, and 12
 pub record RequestAsked (sh : Shape) (pairs : List ℕ) (bloom : ℕ) (entries digests extents : List ℕ) : Type 0 where
   pub few : entryCount entries ≤ recordLimit
   pub whole : bloom % 8 ≡ 0

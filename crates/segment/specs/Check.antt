@@ -1,5 +1,5 @@
--- The rules of docs/FORMAT.md in the order in which check tries them: 14, 1 to 6, then the records by number and within one 7 to 10,
--- then 11, 12. The first that is broken is the answer. Sums and products are over whole numbers.
+-- The rules of docs/FORMAT.md in the order in which check tries them: 14, 1 to 4, 51 to 55, 6, then the records by number and within one
+-- 7 to 10, then 11, 12. The first that is broken is the answer. Sums and products are over whole numbers.
 --   checked     what check answers of a table and a list of bytes
 --   checkOf     the same in numbers
 -- Assumes nothing: these are definitions.
@@ -14,7 +14,11 @@ use Rattle.answer.specs.declared.Rule.the-variants.{
   Magic,
   Version,
   Header as HeaderWrong,
-  Layout,
+  LayoutBloom,
+  LayoutRecords,
+  LayoutDigests,
+  LayoutExtents,
+  LayoutLength,
   Checksum,
   Record as RecordWrong,
   Digest,
@@ -48,6 +52,7 @@ use Rattle.segment.specs.Format.{
   digestsSize,
   extentsOffset,
   extentCount,
+  recordAt,
   recordNo,
   extentsIn,
 }
@@ -73,29 +78,40 @@ headVerdict sh h =
 abbrev pub bloomPlace : ℕ → ℕ
 bloomPlace size = cond (eqb size 0) 0 headerSize
 
--- 5: the layout rules of a header over a file of n bytes, and at most 65,536 records
+-- The layout rules of a header. The place of each is the byte of the header at which its fields begin.
+-- 51: bloom offset and bloom size
+unfoldable pub bloomLaid : Header → Verdict
+bloomLaid h =
+    must (eqb (bloomOffset h) (bloomPlace (bloomSize h))) (refusal LayoutBloom 48)
+    then must (eqb (bloomSize h % 8) 0) (refusal LayoutBloom 48)
+
+-- 52: record count, which is at most 65,536, and records offset
+unfoldable pub recordsLaid : Header → Verdict
+recordsLaid h =
+    must (leb (recordCount h) recordLimit) (refusal LayoutRecords 32)
+    then must (eqb (recordsOffset h) (headerSize + bloomSize h)) (refusal LayoutRecords 32)
+
+-- 53: digests offset and digests size
+unfoldable pub digestsLaid : Shape → Header → Verdict
+digestsLaid sh h =
+    must (eqb (digestsOffset h) (recordsOffset h + sh .«record_size» * recordCount h)) (refusal LayoutDigests 64)
+    then must (eqb (digestsSize h % 8) 0) (refusal LayoutDigests 64)
+
+-- 54: extents offset
+unfoldable pub extentsLaid : Header → Verdict
+extentsLaid h = must (eqb (extentsOffset h) (digestsOffset h + digestsSize h)) (refusal LayoutExtents 80)
+
+-- 55: extent count, over a file of n bytes
+unfoldable pub lengthLaid : Header → ℕ → Verdict
+lengthLaid h n = must (eqb n (extentsOffset h + extentSize * extentCount h + footerSize)) (refusal LayoutLength 88)
+
 unfoldable pub layoutVerdict : Shape → Header → ℕ → Verdict
-layoutVerdict sh h n =
-    must (eqb (bloomOffset h) (bloomPlace (bloomSize h))) (refusal Layout 0)
-    then must (eqb (bloomSize h % 8) 0) (refusal Layout 0)
-    then must (leb (recordCount h) recordLimit) (refusal Layout 0)
-    then must (eqb (recordsOffset h) (headerSize + bloomSize h)) (refusal Layout 0)
-    then must (eqb (digestsOffset h) (recordsOffset h + sh .«record_size» * recordCount h)) (refusal Layout 0)
-    then must (eqb (digestsSize h % 8) 0) (refusal Layout 0)
-    then must (eqb (extentsOffset h) (digestsOffset h + digestsSize h)) (refusal Layout 0)
-    then must (eqb n (extentsOffset h + extentSize * extentCount h + footerSize)) (refusal Layout 0)
+layoutVerdict sh h n = bloomLaid h then recordsLaid h then digestsLaid sh h then extentsLaid h then lengthLaid h n
 
 -- 6: the checksum covers every byte before the footer
 unfoldable pub checksumVerdict : List ℕ → Verdict
 checksumVerdict s =
     must (eqb (footerOf s (length s - footerSize) .checksum) (crc (take (length s - footerSize) s))) (refusal Checksum 0)
-
--- the place of a refusal of record k, of records that begin at a place: its number
-abbrev pub placeFrom : Shape → ℕ → ℕ → ℕ
-placeFrom sh first k = k
-
-abbrev pub recordPlace : Shape → Header → ℕ → ℕ
-recordPlace sh h k = placeFrom sh (recordsOffset h) k
 
 -- 7: reserved, flags, marks, visibility, source or domain wrong
 unfoldable pub marksVerdict : Header → Record → ℕ → Verdict
@@ -157,13 +173,13 @@ unfoldable pub totalVerdict : Shape → List ℕ → Record → ℕ → Verdict
 totalVerdict sh s r p =
     cond (isGone r) (must (eqb (r .«total_length») 0) (refusal Total p)) (liveTotal sh (extentsIn s r) (r .«total_length») p)
 
--- one record, which is refused at place p
+-- one record, which is refused at place p: the byte at which it begins
 unfoldable pub recordRules : Shape → List ℕ → List ℕ → Header → Record → ℕ → Verdict
 recordRules sh pairs s h r p =
     marksVerdict h r p then digestVerdict pairs h r p then extentsVerdict h r p then totalVerdict sh s r p
 
 unfoldable pub recordVerdict : Shape → List ℕ → List ℕ → Header → ℕ → Verdict
-recordVerdict sh pairs s h k = recordRules sh pairs s h (recordNo sh s h k) (recordPlace sh h k)
+recordVerdict sh pairs s h k = recordRules sh pairs s h (recordNo sh s h k) (recordAt sh h k)
 
 -- the visibility of record k
 unfoldable pub visibilityNo : Shape → List ℕ → Header → ℕ → ℕ
@@ -196,7 +212,7 @@ segmentRules sh pairs s h =
     then checksumVerdict s
     then firstOver (recordCount h) (recordVerdict sh pairs s h)
     then visibilityVerdict sh s h
-    then firstOver (recordCount h) (freshKey (keyNo sh s h) (recordPlace sh h))
+    then firstOver (recordCount h) (freshKey (keyNo sh s h) (recordAt sh h))
 
 -- 1 to 12
 unfoldable pub segmentVerdict : Shape → List ℕ → List ℕ → Verdict

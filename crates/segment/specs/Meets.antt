@@ -49,7 +49,7 @@ pub record HeaderMeets (h : Header) : Type 0 where
   pub flags : h .flags ≡ 0
   pub visibility : h .visibility ≤ 1
 
--- 5
+-- 51 to 55
 pub record LayoutMeets (sh : Shape) (s : List ℕ) (h : Header) : Type 0 where
   pub noBloom : bloomSize h ≡ 0 → bloomOffset h ≡ 0
   pub bloom : (bloomSize h ≡ 0 → ⊥) → bloomOffset h ≡ headerSize

@@ -1,5 +1,5 @@
 -- docs/SERVICES.md, "Write": the meaning's header numbers, bloom bytes, entries, a run of digest bytes and a list of extents. Order: 14,
--- 16 for the entry count, 5, then entries by number and within one 7, 15, 8, 9, 10; then 12, 16 for size, 13. A flat list's unfinished
+-- 16 for the entry count, 51, then entries by number and within one 7, 15, 8, 9, 10; then 12, 16 for size, 13. A flat list's unfinished
 -- last item is not read. A lent number too wide for its field gives 7 in visibility, marks or source, 8 in hash id or digest length,
 -- 9 in extent count, 10 in an extent.
 --   Request           what write is lent besides the table and the output
@@ -12,7 +12,7 @@ use mathlib.Core.Bool.{Bool, true, cond, _&&_, _||_}
 use mathlib.Core.List.{List, [], _∷_, map}
 use lib.Dec.{leb, ltb, eqb}
 use lib.ListN.{length, getD, take, drop}
-use Rattle.answer.specs.declared.Rule.the-variants.{Layout, Record, Digest, Extents, Total, List as ListEnd, Large}
+use Rattle.answer.specs.declared.Rule.the-variants.{LayoutBloom, Record, Digest, Extents, Total, List as ListEnd, Large}
 use Rattle.answer.specs.declared.Verdict.{Verdict}
 use Rattle.answer.specs.declared.Written.{Written}
 use Rattle.answer.specs.Rules.{must, _then_, firstOver}
@@ -153,11 +153,11 @@ requested q = record {
   records = map (entryRow (q .entries) (q .digests) (q .extents)) (countFrom 0 (entryCount (q .entries)));
 }
 
--- 16 for the entry count and 5; the entries; 12. Of a run of bloom bytes, of which there are some number
+-- 16 for the entry count and 51, which has no byte of a file here; the entries; 12. Of a run of bloom bytes, of which there are some number
 unfoldable pub requestRules : Shape → List ℕ → ℕ → List ℕ → List ℕ → List ℕ → Verdict
 requestRules sh pairs bloom entries digests extents =
     must (leb (entryCount entries) recordLimit) (refusal Large 0)
-    then must (eqb (bloom % 8) 0) (refusal Layout 0)
+    then must (eqb (bloom % 8) 0) (refusal LayoutBloom 0)
     then firstOver (entryCount entries) (entryVerdict sh pairs entries digests extents)
     then firstOver (entryCount entries) (freshKey (entryKey entries digests) entryPlace)
 

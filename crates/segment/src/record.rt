@@ -4,7 +4,6 @@ ghost use Prim.Native.Nat.{_+_, _<_, _≤_};
 ghost use lib.ListN.{length};
 ghost use Rattle.segment.specs.Format.{recordFrom, recordOf};
 ghost use Rattle.segment.specs.Shapes.{Shaped};
-ghost use Rattle.segment.specs.Check.{placeFrom};
 use crate::shape::Shape;
 use field_record::record as fields;
 use offset::FileOffset;
@@ -68,11 +67,4 @@ pub fn nth_record(sh: Shape, seg: &[u8], first: FileOffset, k: usize) -> Record
     ensures { λ r. ⌜ r ≡ recordOf sh (now (seg .entry)) (recordFrom sh (first .0) k) ⌝ }
 {
     Record::at(sh, seg, begins(sh, first, k))
-}
-
-// The place of a refusal of record k of them.
-pub fn place_of(sh: Shape, first: FileOffset, k: usize) -> u64
-    ensures { λ r. ⌜ r ≡ placeFrom sh (first .0) k ⌝ }
-{
-    k as u64
 }

@@ -12,7 +12,7 @@ use Rattle.numbers.specs.Numbers.{le, numAt, bytesOf}
 use Rattle.answer.specs.declared.Source.the-variants.{Domain}
 use Rattle.answer.specs.declared.Verdict.the-variants.{Accepted}
 use Rattle.answer.specs.Rules.{firstOver, someBelow}
-use Rattle.segment.specs.Format.{v3, headerOf, recordOf, extentOf, recordNo, extentsAt, recordCount}
+use Rattle.segment.specs.Format.{v3, headerOf, recordOf, extentOf, recordAt, recordNo, extentsAt, recordCount}
 use Rattle.table.specs.Table.{stands, goodPairs, goodTable, allows}
 use Rattle.segment.specs.Keys.{freshKey}
 use Rattle.lists.specs.Lists.{lexLeq, insert, sortBy, eqList, Each}
@@ -20,6 +20,11 @@ use Rattle.segment.specs.Check.{
   sizeVerdict,
   headVerdict,
   layoutVerdict,
+  bloomLaid,
+  recordsLaid,
+  digestsLaid,
+  extentsLaid,
+  lengthLaid,
   marksVerdict,
   digestVerdict,
   goneExtents,
@@ -30,7 +35,6 @@ use Rattle.segment.specs.Check.{
   liveTotal,
   totalVerdict,
   recordRules,
-  recordPlace,
   recordVerdict,
   visibilityNo,
   largestBelow,
@@ -84,7 +88,7 @@ use Rattle.theorem_cases.proofs.Sealed.{allBytes, all-bytes, footed, up
 
 -- ---- rules that are kept, as the tables have them
 
--- 14 and 1 to 6, of a body with its footer
+-- every rule up to 6, of a body with its footer
 sealed-kept : (pairs body : List ℕ) → goodTable pairs ≡ true → sizeVerdict (length (sealed body)) ≡ Accepted
     → headVerdict v3 (headerOf (sealed body)) ≡ Accepted → layoutVerdict v3 (headerOf (sealed body)) (length (sealed body)) ≡ Accepted
     → allBytes body ≡ true → UpToChecksum pairs (sealed body)
@@ -111,14 +115,14 @@ extents-kept : (pairs s : List ℕ) (k : ℕ) → UpToDigest pairs s k → exten
 extents-kept pairs s k d e = record { before = d; extents = extents-book (headerOf s) (recordIn s k) 0 .0 e }
 
 -- 12
-keys-kept : (s : List ℕ) → firstOver (recordCount (headerOf s)) (freshKey (keyNo v3 s (headerOf s)) (recordPlace v3 (headerOf s))) ≡ Accepted
+keys-kept : (s : List ℕ) → firstOver (recordCount (headerOf s)) (freshKey (keyNo v3 s (headerOf s)) (recordAt v3 (headerOf s))) ≡ Accepted
     → KeysDiffer v3 s (headerOf s)
-keys-kept s = keys-book (keyNo v3 s (headerOf s)) (recordPlace v3 (headerOf s)) (recordCount (headerOf s)) .0
+keys-kept s = keys-book (keyNo v3 s (headerOf s)) (recordAt v3 (headerOf s)) (recordCount (headerOf s)) .0
 
 -- where all are kept, all but one are
 module _ (pairs s : List ℕ) (u : UpToRecords pairs s) (k : ℕ) (w : k < recordCount (headerOf s)) where
   all-kept : visibilityVerdict v3 s (headerOf s) ≡ Accepted
-      → firstOver (recordCount (headerOf s)) (freshKey (keyNo v3 s (headerOf s)) (recordPlace v3 (headerOf s))) ≡ Accepted → AllBut10 pairs s k
+      → firstOver (recordCount (headerOf s)) (freshKey (keyNo v3 s (headerOf s)) (recordAt v3 (headerOf s))) ≡ Accepted → AllBut10 pairs s k
   all-kept v d =
       let here = u .each k w in
       record {
@@ -150,7 +154,7 @@ only-gone v (suc (suc zero)) l n = refl
 only-gone v (suc (suc (suc j))) l n = absurd (omega arith)
 
 pub members : Members
-unfolding sealed among wrapped bodyOf recordListBytes packed headerFields recordFields recordFor extentListBytes extentFields footerFields bytesOf numAt le tidyForm formOf formBody formHeader sortBy insert lexLeq recordsBytes digestBytes digestSection extentBytes extentTotal Each goodTable goodPairs stands allows sizeVerdict headVerdict layoutVerdict allBytes headerOf recordOf extentOf recordNo extentsAt firstOver someBelow marksVerdict digestVerdict goneExtents liveExtents extentsVerdict allFit sumLengths liveTotal totalVerdict recordRules recordVerdict visibilityNo largestBelow visibilityVerdict eqList freshKey digestIn keyNo
+unfolding sealed among wrapped bodyOf recordListBytes packed headerFields recordFields recordFor extentListBytes extentFields footerFields bytesOf numAt le tidyForm formOf formBody formHeader sortBy insert lexLeq recordsBytes digestBytes digestSection extentBytes extentTotal Each goodTable goodPairs stands allows sizeVerdict headVerdict layoutVerdict bloomLaid recordsLaid digestsLaid extentsLaid lengthLaid allBytes headerOf recordOf extentOf recordNo extentsAt firstOver someBelow marksVerdict digestVerdict goneExtents liveExtents extentsVerdict allFit sumLengths liveTotal totalVerdict recordRules recordVerdict visibilityNo largestBelow visibilityVerdict eqList freshKey digestIn keyNo
 members =
     let good = records-kept table (sealed (atEnd 1)) (sealed-kept table (atEnd 1) refl refl refl refl refl) refl in
     let past = sealed-kept table (atEnd 2) refl refl refl refl refl in

@@ -24,7 +24,8 @@ use Rattle.segment.specs.Format.{v3, leastFile, inBlock, fileLimit, recordLimit
 use Rattle.table.specs.Table.{goodTable, allows}
 use Rattle.segment.specs.Keys.{Key, allowsKey}
 use Rattle.lists.specs.Lists.{lexLeq, insert, sortBy, Each}
-use Rattle.segment.specs.Check.{sizeVerdict, headVerdict, layoutVerdict, sumLengths, visibilityNo, digestIn, recordKey, keyNo, checkOf}
+use Rattle.segment.specs.Check.{sizeVerdict, headVerdict, layoutVerdict, bloomLaid, recordsLaid, digestsLaid, extentsLaid, lengthLaid, sumLengths, visibilityNo, digestIn, recordKey, keyNo, checkOf}
+use Rattle.segment.specs.Layout.{BloomLies}
 use Rattle.segment.specs.Meets.{LayoutMeets, SumMeets, TotalMeets, RecordMeets, VisibilityMeets, KeysDiffer, Meets}
 use Rattle.segment.specs.Meaning.{Row, rowKey, sourceOf}
 use Rattle.segment.specs.Tidy.{
@@ -53,7 +54,7 @@ use Rattle.form_laws.specs.Form.{HeadingWritable, ExtentWritable, Writable, Key
 use Rattle.form_laws.proofs.Checksum.{body-bytes}
 use Rattle.theorem_demands.specs.Answered.{accepted, absent, refusedBy}
 use Rattle.theorem_demands.specs.LookUps.{HasKey}
-use Rattle.theorem_demands.specs.Refusals.{recordIn, UpToRecords, Given, by-size, by-layout, by-extents, by-total, by-visibility}
+use Rattle.theorem_demands.specs.Refusals.{recordIn, UpToRecords, Given, by-size, by-layout-records, by-extents, by-total, by-visibility}
 use Rattle.theorem_demands.proofs.Rulebook.{accepts-iff}
 use Rattle.theorem_demands.proofs.Refusals.{refused-numbers}
 use Rattle.theorem_demands.proofs.LookUps.{look-up-finds}
@@ -168,7 +169,7 @@ unfolding tidyForm formOf formBody formHeader sortBy packed headerFields records
 empty-lies t = record { bloomAt = refl; recordsAt = refl; digestsAt = refl; digestsLong = refl; extentsAt = refl; long = refl }
 
 empty-form : (pairs : List ℕ) (t : Heading) → goodTable pairs ≡ true → NoRecords pairs (tidyOfRows t []) 0
-unfolding tidyForm formOf formBody formHeader sortBy packed headerFields recordsBytes digestBytes digestSection extentBytes footerFields bytesOf headerOf numAt le extentTotal largestVisibility sizeVerdict headVerdict layoutVerdict Each
+unfolding tidyForm formOf formBody formHeader sortBy packed headerFields recordsBytes digestBytes digestSection extentBytes footerFields bytesOf headerOf numAt le extentTotal largestVisibility sizeVerdict headVerdict layoutVerdict bloomLaid recordsLaid digestsLaid extentsLaid lengthLaid Each
 empty-form pairs t g = record {
   before =
       up-to-checksum pairs (tidyOfRows t []) g refl refl refl
@@ -198,7 +199,9 @@ pub short : Short
 short = record { none = λ pairs s g e. too-short pairs s g (omega arith); one-less = λ pairs s g e. too-short pairs s g (omega arith) }
 
 pub great-bloom : GreatBloom
-great-bloom = λ pairs s u at size records. refuses pairs s (by-layout u (λ m. omega (arith, m .records)))
+great-bloom = λ pairs s u at size records.
+    let bloom : BloomLies (headerOf s) = record { none = λ z. absurd (omega arith); some = λ z. at; divides = omega arith } in
+    refuses pairs s (by-layout-records u bloom (λ m. omega (arith, m .starts)))
 
 -- ---- one record of any file
 

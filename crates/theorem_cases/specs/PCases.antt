@@ -90,7 +90,7 @@ tidyOfRows t rows = tidyForm v3 (record { heading = t; bloom = []; records = row
 
 -- ---- the cases, in the page's order
 
--- 1 to 6 are kept; 0 records under a header of some visibility
+-- every rule up to 6 is kept; 0 records under a header of some visibility
 pub record NoRecords (pairs s : List ℕ) (visibility : ℕ) : Type 0 where
   pub before : UpToChecksum pairs s
   pub none : recordCount (headerOf s) ≡ 0
@@ -151,11 +151,11 @@ pub record CaseL : Type 0 where
   pub accepts : (pairs : List ℕ) (t : Heading) → goodTable pairs ≡ true → allows pairs 7 4 ≡ true
       → checkOf pairs (tidyOfRows t caseL) ≡ accepted
 
--- bloom offset 112, bloom size 2^64 − 112, records offset 0: refusal 5, whatever the other section numbers are
+-- bloom offset 112, bloom size 2^64 − 112, records offset 0: refusal 52, at the byte of record count and records offset, whatever the other numbers are
 abbrev pub GreatBloom : Type 0
 GreatBloom =
     (pairs s : List ℕ) → UpToHeader pairs s → bloomOffset (headerOf s) ≡ 112 → bloomSize (headerOf s) ≡ 18446744073709551504
-    → recordsOffset (headerOf s) ≡ 0 → checkOf pairs s ≡ refusedBy 5 0
+    → recordsOffset (headerOf s) ≡ 0 → checkOf pairs s ≡ refusedBy 52 32
 
 -- extent j of record k
 abbrev pub extentIn : List ℕ → ℕ → ℕ → Extent
@@ -206,7 +206,7 @@ LiveWithout =
 abbrev pub ShownNothing : Type 0
 ShownNothing = (pairs s : List ℕ) → NoRecords pairs s 1 → checkOf pairs s ≡ refusedBy 11 0
 
--- 1 to 10 are kept; record k is gone and published, under a header of some visibility
+-- every rule up to 10 is kept; record k is gone and published, under a header of some visibility
 pub record GonePublished (pairs s : List ℕ) (k visibility : ℕ) : Type 0 where
   pub before : UpToRecords pairs s
   pub within : k < recordCount (headerOf s)

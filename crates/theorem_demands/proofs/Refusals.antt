@@ -15,11 +15,12 @@ use Rattle.answer.specs.Answers.{refused, checkAnswer}
 use Rattle.answer.proofs.Order.{never-both, Lowest, by-run}
 use Rattle.answer.proofs.Settled.{check-settled}
 use Rattle.segment.proofs.Shapes.{v3-shaped}
-use Rattle.segment.specs.Format.{v3, headerOf, recordCount}
+use Rattle.segment.specs.Format.{v3, headerOf, recordCount, recordAt}
 use Rattle.table.specs.Table.{goodTable}
 use Rattle.segment.specs.Keys.{freshKey}
-use Rattle.segment.specs.Check.{recordPlace, recordVerdict, keyNo, checked, checkOf}
+use Rattle.segment.specs.Check.{recordVerdict, keyNo, checked, checkOf}
 use Rattle.segment.specs.Meets.{MarksMeet, DigestMeets, RecordMeets}
+use Rattle.segment.specs.Layout.{BloomLies, RecordsLie, DigestsLie, ExtentsLie}
 use Rattle.key.proofs.Duplicates.{refused-twice}
 use Rattle.theorem_demands.specs.Refusals.{
   MagicMeets,
@@ -39,7 +40,11 @@ use Rattle.theorem_demands.specs.Refusals.{
   by-magic,
   by-version,
   by-header,
-  by-layout,
+  by-layout-bloom,
+  by-layout-records,
+  by-layout-digests,
+  by-layout-extents,
+  by-layout-length,
   by-checksum,
   by-marks,
   by-digest,
@@ -49,7 +54,17 @@ use Rattle.theorem_demands.specs.Refusals.{
   by-duplicate,
 }
 use Rattle.check_book.proofs.OneRefusal.{decided}
-use Rattle.check_book.proofs.TablesHeader.{size-book, header-book, layout-book, checksum-book}
+use Rattle.check_book.proofs.TablesHeader.{
+  size-book,
+  header-book,
+  bloom-laid-book,
+  records-laid-book,
+  digests-laid-book,
+  extents-laid-book,
+  length-laid-book,
+  laid-meets,
+  checksum-book,
+}
 use Rattle.check_book.proofs.TablesRecord.{marks-book, digest-book, extents-book, record-book}
 use Rattle.check_book.proofs.TablesVisibility.{visibility-book}
 use Rattle.theorem_demands.proofs.InNumbers.{in-numbers}
@@ -64,12 +79,12 @@ data Judged (pairs s : List ℕ) : Type 0 where
 
 module _ (pairs s : List ℕ) where
   from-keys : UpToVisibility pairs s → Judged pairs s
-  from-keys u = go (firstOver (recordCount (headerOf s)) (freshKey (keyNo v3 s (headerOf s)) (recordPlace v3 (headerOf s)))) refl
+  from-keys u = go (firstOver (recordCount (headerOf s)) (freshKey (keyNo v3 s (headerOf s)) (recordAt v3 (headerOf s)))) refl
     where
-      go : (v : Verdict) → firstOver (recordCount (headerOf s)) (freshKey (keyNo v3 s (headerOf s)) (recordPlace v3 (headerOf s))) ≡ v → Judged pairs s
+      go : (v : Verdict) → firstOver (recordCount (headerOf s)) (freshKey (keyNo v3 s (headerOf s)) (recordAt v3 (headerOf s))) ≡ v → Judged pairs s
       go Accepted e = accepts (at-keys pairs s u ∙ e)
       go (Refused r) e =
-          let d = refused-twice (keyNo v3 s (headerOf s)) (recordPlace v3 (headerOf s)) (recordCount (headerOf s)) r e in
+          let d = refused-twice (keyNo v3 s (headerOf s)) (recordAt v3 (headerOf s)) (recordCount (headerOf s)) r e in
           gives _ (by-duplicate (d .0) u (d .2))
 
   from-visibility : UpToRecords pairs s → Judged pairs s
@@ -109,11 +124,28 @@ module _ (pairs s : List ℕ) where
   from-checksum u =
       by-cases (decided (checksum-book s)) (λ m. from-records (record { before = u; checksum = m })) (λ n. gives _ (by-checksum u n))
 
-  from-layout : UpToHeader pairs s → Judged pairs s
-  from-layout u =
-      by-cases (decided (layout-book v3 v3-shaped s (headerOf s)))
-      (λ m. from-checksum (record { before = u; layout = m }))
-      (λ n. gives _ (by-layout u n))
+  -- a segment whose header is kept
+  module _ (u : UpToHeader pairs s) where
+    from-length : BloomLies (headerOf s) → RecordsLie (headerOf s) → DigestsLie v3 (headerOf s) → ExtentsLie (headerOf s) → Judged pairs s
+    from-length bloom records digests extents =
+        by-cases (decided (length-laid-book (headerOf s) s))
+        (λ m. from-checksum (record { before = u; layout = laid-meets v3 v3-shaped s (headerOf s) bloom records digests extents m }))
+        (λ n. gives _ (by-layout-length u bloom records digests extents n))
+
+    from-extents-offset : BloomLies (headerOf s) → RecordsLie (headerOf s) → DigestsLie v3 (headerOf s) → Judged pairs s
+    from-extents-offset bloom records digests =
+        by-cases (decided (extents-laid-book (headerOf s))) (from-length bloom records digests) (λ n. gives _ (by-layout-extents u bloom records digests n))
+
+    from-digests-offset : BloomLies (headerOf s) → RecordsLie (headerOf s) → Judged pairs s
+    from-digests-offset bloom records =
+        by-cases (decided (digests-laid-book (headerOf s) v3)) (from-extents-offset bloom records) (λ n. gives _ (by-layout-digests u bloom records n))
+
+    from-records-offset : BloomLies (headerOf s) → Judged pairs s
+    from-records-offset bloom =
+        by-cases (decided (records-laid-book (headerOf s))) (from-digests-offset bloom) (λ n. gives _ (by-layout-records u bloom n))
+
+    from-layout : Judged pairs s
+    from-layout = by-cases (decided (bloom-laid-book (headerOf s))) from-records-offset (λ n. gives _ (by-layout-bloom u n))
 
   from-header : UpToSize pairs s → MagicMeets s → VersionMeets s → Judged pairs s
   from-header u magic version =

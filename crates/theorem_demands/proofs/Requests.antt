@@ -9,7 +9,7 @@ use borrow.Author.Tests.{le-leb, lt-leb, eq-eqb, ne-eqb}
 use lib.Dec.{leb, eqb}
 use lib.ListN.{length}
 use Rattle.answer.specs.declared.Refusal.{Refusal}
-use Rattle.answer.specs.declared.Rule.the-variants.{Layout, Record as RecordWrong, Digest, Extents, Total, Table, List as ListEnd, Large}
+use Rattle.answer.specs.declared.Rule.the-variants.{LayoutBloom, Record as RecordWrong, Digest, Extents, Total, Table, List as ListEnd, Large}
 use Rattle.answer.specs.Answers.{refusal}
 use Rattle.answer.specs.declared.Verdict.{Verdict}
 use Rattle.answer.specs.declared.Verdict.the-variants.{Accepted, Refused}
@@ -144,7 +144,7 @@ module _ (pairs : List ℕ) (q : Request) where
   few-book : must (leb count recordLimit) (refusal Large 0) ≡ Accepted ↔ count ≤ recordLimit
   few-book = simp rows Iff·rfl
 
-  bloom-book : must (eqb (length (q .bloom) % 8) 0) (refusal Layout 0) ≡ Accepted ↔ length (q .bloom) % 8 ≡ 0
+  bloom-book : must (eqb (length (q .bloom) % 8) 0) (refusal LayoutBloom 0) ≡ Accepted ↔ length (q .bloom) % 8 ≡ 0
   bloom-book = simp rows Iff·rfl
 
   request-refuses : (r : Refusal) → requestVerdict v3 pairs q ≡ Refused r → RequestGiven pairs q r
@@ -154,7 +154,7 @@ module _ (pairs : List ℕ) (q : Request) where
       (λ g f.
       by-first (only-must (leb count recordLimit) (refusal Large 0)) few-book f (λ s n. rw (← s) (by-count g (omega arith)))
       (λ few f.
-      by-first (only-must (eqb (length (q .bloom) % 8) 0) (refusal Layout 0)) bloom-book f (λ s n. rw (← s) (by-bloom g few n))
+      by-first (only-must (eqb (length (q .bloom) % 8) 0) (refusal LayoutBloom 0)) bloom-book f (λ s n. rw (← s) (by-bloom g few n))
       (λ bloom f. from-entries (record { table = g; few = few; bloom = bloom }) r f)))
 
   at-entries : UpToBloom pairs q → requestVerdict v3 pairs q ≡ (firstOver count each then firstOver count (freshKey key entryPlace))

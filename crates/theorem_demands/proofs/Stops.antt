@@ -9,10 +9,9 @@ use Rattle.answer.specs.declared.Verdict.the-variants.{Accepted, Refused}
 use Rattle.answer.specs.Rules.{_then_, firstOver}
 use Rattle.answer.proofs.Order.{first-refused}
 use Rattle.segment.proofs.Shapes.{v3-shaped}
-use Rattle.segment.specs.Format.{v3, headerOf, recordCount}
+use Rattle.segment.specs.Format.{v3, headerOf, recordCount, recordAt}
 use Rattle.segment.specs.Keys.{freshKey}
 use Rattle.segment.specs.Check.{
-  recordPlace,
   headVerdict,
   layoutVerdict,
   checksumVerdict,
@@ -41,7 +40,11 @@ use Rattle.theorem_demands.specs.Refusals.{
   by-magic,
   by-version,
   by-header,
-  by-layout,
+  by-layout-bloom,
+  by-layout-records,
+  by-layout-digests,
+  by-layout-extents,
+  by-layout-length,
   by-checksum,
   by-marks,
   by-digest,
@@ -59,7 +62,11 @@ use Rattle.check_book.proofs.TablesHeader.{
   version-broken,
   header-broken,
   layout-book,
-  layout-broken,
+  bloom-laid-broken,
+  records-laid-broken,
+  digests-laid-broken,
+  extents-laid-broken,
+  length-laid-broken,
   checksum-book,
   checksum-broken,
 }
@@ -84,7 +91,7 @@ module _ (pairs s : List ℕ) where
       → checked pairs s
       ≡ (firstOver (recordCount (headerOf s)) (recordVerdict v3 pairs s (headerOf s))
       then visibilityVerdict v3 s (headerOf s)
-      then firstOver (recordCount (headerOf s)) (freshKey (keyNo v3 s (headerOf s)) (recordPlace v3 (headerOf s))))
+      then firstOver (recordCount (headerOf s)) (freshKey (keyNo v3 s (headerOf s)) (recordAt v3 (headerOf s))))
   unfolding segmentRules
   at-records u =
       at-header (u .before .before .before) ∙ rw (head-kept (u .before .before), layout-kept (u .before), checksum-book s .1 (u .checksum))
@@ -92,7 +99,7 @@ module _ (pairs s : List ℕ) where
   records-kept : UpToRecords pairs s → firstOver (recordCount (headerOf s)) (recordVerdict v3 pairs s (headerOf s)) ≡ Accepted
   records-kept u = records-book v3 pairs s (headerOf s) (recordCount (headerOf s)) .1 (u .each)
 
-  pub at-keys : UpToVisibility pairs s → checked pairs s ≡ firstOver (recordCount (headerOf s)) (freshKey (keyNo v3 s (headerOf s)) (recordPlace v3 (headerOf s)))
+  pub at-keys : UpToVisibility pairs s → checked pairs s ≡ firstOver (recordCount (headerOf s)) (freshKey (keyNo v3 s (headerOf s)) (recordAt v3 (headerOf s)))
   at-keys u = at-records (u .before .before) ∙ rw (records-kept (u .before), visibility-book v3 s (headerOf s) .1 (u .visibility))
 
   -- ---- where it stops
@@ -129,7 +136,11 @@ module _ (pairs s : List ℕ) where
   given-refused r (by-magic u n) = head-stops u (magic-broken v3 (headerOf s) n)
   given-refused r (by-version u m n) = head-stops u (version-broken v3 (headerOf s) m n)
   given-refused r (by-header u m v n) = head-stops u (header-broken v3 (headerOf s) m v n)
-  given-refused r (by-layout u n) = layout-stops u (layout-broken v3 v3-shaped s (headerOf s) n)
+  given-refused r (by-layout-bloom u n) = layout-stops u (bloom-laid-broken v3 s (headerOf s) n)
+  given-refused r (by-layout-records u b n) = layout-stops u (records-laid-broken v3 s (headerOf s) b n)
+  given-refused r (by-layout-digests u b k n) = layout-stops u (digests-laid-broken v3 s (headerOf s) b k n)
+  given-refused r (by-layout-extents u b k d n) = layout-stops u (extents-laid-broken v3 s (headerOf s) b k d n)
+  given-refused r (by-layout-length u b k d x n) = layout-stops u (length-laid-broken v3 s (headerOf s) b k d x n)
   given-refused r (by-checksum u n) = checksum-stops u (checksum-broken s n)
   given-refused r (by-marks k u n) = record-stops k u (marks-broken v3 pairs s (headerOf s) (recordIn s k) (placeIn s k) n)
   given-refused r (by-digest k u m n) = record-stops k u (digest-broken v3 pairs s (headerOf s) (recordIn s k) (placeIn s k) m n)
@@ -137,4 +148,4 @@ module _ (pairs s : List ℕ) where
   given-refused r (by-total k u m d x n) = record-stops k u (total-broken v3 pairs s (headerOf s) (recordIn s k) (placeIn s k) m d x n)
   given-refused r (by-visibility u n) = visibility-stops u (visibility-broken v3 s (headerOf s) n)
   given-refused r (by-duplicate k u t) =
-      at-keys u ∙ twice-refused (keyNo v3 s (headerOf s)) (recordPlace v3 (headerOf s)) (recordCount (headerOf s)) k t
+      at-keys u ∙ twice-refused (keyNo v3 s (headerOf s)) (recordAt v3 (headerOf s)) (recordCount (headerOf s)) k t

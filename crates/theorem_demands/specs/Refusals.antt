@@ -1,5 +1,5 @@
 -- docs/SERVICES.md, "The order of refusals": each refusal of check is given exactly when its rule is broken, if none before it in the order applies. The order is
--- 14, 1 to 6, then records by number and within one 7 to 10, then 11, 12.
+-- 14, 1 to 4, 51 to 55, 6, then records by number and within one 7 to 10, then 11, 12.
 --   UpTo..      every rule is kept, in that order, up to and with the one named
 --   Given       a refusal's rule is broken, and all that comes before it is kept
 -- Assumes nothing: these are definitions.
@@ -13,7 +13,11 @@ use Rattle.answer.specs.declared.Rule.the-variants.{
   Magic,
   Version,
   Header as HeaderWrong,
-  Layout,
+  LayoutBloom,
+  LayoutRecords,
+  LayoutDigests,
+  LayoutExtents,
+  LayoutLength,
   Checksum,
   Record as RecordWrong,
   Digest,
@@ -25,10 +29,10 @@ use Rattle.answer.specs.declared.Rule.the-variants.{
 }
 use Rattle.answer.specs.Answers.{refusal}
 use Rattle.segment.specs.declared.record.Record.{Record}
-use Rattle.segment.specs.Format.{v3, headerOf, recordCount, recordNo}
+use Rattle.segment.specs.Format.{v3, headerOf, recordCount, recordAt, recordNo}
 use Rattle.table.specs.Table.{goodTable}
 use Rattle.segment.specs.Keys.{FirstTwice}
-use Rattle.segment.specs.Check.{keyNo, recordPlace}
+use Rattle.segment.specs.Check.{keyNo}
 use Rattle.segment.specs.Meets.{
   SizeMeets,
   HeaderMeets,
@@ -41,6 +45,7 @@ use Rattle.segment.specs.Meets.{
   RecordMeets,
   VisibilityMeets,
 }
+use Rattle.segment.specs.Layout.{BloomLies, RecordsLie, DigestsLie, ExtentsLie, LengthFits}
 
 -- ---- the rules that the rule book has no name for: 2 and 3
 
@@ -54,9 +59,9 @@ VersionMeets s = headerOf s .version ≡ v3 .version
 abbrev pub recordIn : List ℕ → ℕ → Record
 recordIn s k = recordNo v3 s (headerOf s) k
 
--- the place of its refusals
+-- the place of its refusals: the byte at which it begins
 abbrev pub placeIn : List ℕ → ℕ → ℕ
-placeIn s k = recordPlace v3 (headerOf s) k
+placeIn s k = recordAt v3 (headerOf s) k
 
 -- ---- what is kept before a rule's turn comes
 
@@ -72,7 +77,7 @@ pub record UpToHeader (pairs s : List ℕ) : Type 0 where
   pub version : VersionMeets s
   pub header : HeaderMeets (headerOf s)
 
--- and 5
+-- and 51 to 55
 pub record UpToLayout (pairs s : List ℕ) : Type 0 where
   pub before : UpToHeader pairs s
   pub layout : LayoutMeets v3 s (headerOf s)
@@ -106,7 +111,18 @@ pub data Given (pairs s : List ℕ) : Refusal → Type 0 where
   by-magic : UpToSize pairs s → ¬ MagicMeets s → Given pairs s (refusal Magic 0)
   by-version : UpToSize pairs s → MagicMeets s → ¬ VersionMeets s → Given pairs s (refusal Version 0)
   by-header : UpToSize pairs s → MagicMeets s → VersionMeets s → ¬ HeaderMeets (headerOf s) → Given pairs s (refusal HeaderWrong 0)
-  by-layout : UpToHeader pairs s → ¬ LayoutMeets v3 s (headerOf s) → Given pairs s (refusal Layout 0)
+  -- a layout rule, at the byte of the header at which its fields begin
+  by-layout-bloom : UpToHeader pairs s → ¬ BloomLies (headerOf s) → Given pairs s (refusal LayoutBloom 48)
+  by-layout-records : UpToHeader pairs s → BloomLies (headerOf s) → ¬ RecordsLie (headerOf s) → Given pairs s (refusal LayoutRecords 32)
+  by-layout-digests : UpToHeader pairs s → BloomLies (headerOf s) → RecordsLie (headerOf s) → ¬ DigestsLie v3 (headerOf s)
+      → Given pairs s (refusal LayoutDigests 64)
+  by-layout-extents : UpToHeader pairs s → BloomLies (headerOf s) → RecordsLie (headerOf s) → DigestsLie v3 (headerOf s)
+      → ¬ ExtentsLie (headerOf s)
+      → Given pairs s (refusal LayoutExtents 80)
+  by-layout-length : UpToHeader pairs s → BloomLies (headerOf s) → RecordsLie (headerOf s) → DigestsLie v3 (headerOf s)
+      → ExtentsLie (headerOf s)
+      → ¬ LengthFits s (headerOf s)
+      → Given pairs s (refusal LayoutLength 88)
   by-checksum : UpToLayout pairs s → ¬ ChecksumMeets s → Given pairs s (refusal Checksum 0)
   by-marks : (k : ℕ) → Reached pairs s k → ¬ MarksMeet (headerOf s) (recordIn s k) → Given pairs s (refusal RecordWrong (placeIn s k))
   by-digest : (k : ℕ) → Reached pairs s k → MarksMeet (headerOf s) (recordIn s k) → ¬ DigestMeets pairs (headerOf s) (recordIn s k)

@@ -1,6 +1,6 @@
 -- docs/SERVICES.md, "The three demands", 2 on write:
 -- what it writes is accepted under the same table and, read back, gives what was asked for. And each refusal of write: 14, 16
--- for the entry count, 5, then entries by number and within one 7, 15, 8, 9, 10; then 12, 16 for size, 13.
+-- for the entry count, 51, then entries by number and within one 7, 15, 8, 9, 10; then 12, 16 for size, 13.
 --   Lent           what the types of the lent parts say of their numbers
 --   Asks           nothing is refused before the size
 --   writtenBytes   the tidy form of what is asked for
@@ -16,7 +16,7 @@ use lib.ListN.{length, getD}
 use Rattle.numbers.specs.Numbers.{Bytes}
 use Rattle.answer.specs.declared.Refusal.{Refusal}
 use Rattle.answer.specs.declared.Rule.the-variants.{
-  Layout,
+  LayoutBloom,
   Record as RecordWrong,
   Digest,
   Extents,
@@ -67,7 +67,7 @@ pub record Writes (pairs : List ℕ) (q : Request) (room : ℕ) : Type 0 where
 
 -- ---- what is kept before a rule's turn comes
 
--- 14, 16 for the entry count, and 5
+-- 14, 16 for the entry count, and 51
 pub record UpToBloom (pairs : List ℕ) (q : Request) : Type 0 where
   pub table : goodTable pairs ≡ true
   pub few : entryCount (q .entries) ≤ recordLimit
@@ -106,7 +106,7 @@ pub data EntryGiven (pairs digests extents : List ℕ) (e : Entry) (k : ℕ) : R
 pub data RequestGiven (pairs : List ℕ) (q : Request) : Refusal → Type 0 where
   by-table : goodTable pairs ≡ false → RequestGiven pairs q (refusal Table 0)
   by-count : goodTable pairs ≡ true → recordLimit < entryCount (q .entries) → RequestGiven pairs q (refusal Large 0)
-  by-bloom : goodTable pairs ≡ true → entryCount (q .entries) ≤ recordLimit → ¬ (length (q .bloom) % 8 ≡ 0) → RequestGiven pairs q (refusal Layout 0)
+  by-bloom : goodTable pairs ≡ true → entryCount (q .entries) ≤ recordLimit → ¬ (length (q .bloom) % 8 ≡ 0) → RequestGiven pairs q (refusal LayoutBloom 0)
   by-entry : {r : Refusal} (k : ℕ) → EntryReached pairs q k → EntryGiven pairs (q .digests) (q .extents) (entryNo (q .entries) k) k r
       → RequestGiven pairs q r
   -- at the lowest entry whose key stands earlier

@@ -17,7 +17,7 @@ use Rattle.segment.specs.LookUp.{lookedUp, lookUpOf, extentsPart}
 use Rattle.segment.specs.Walk.{stepped}
 use Rattle.segment.specs.Meaning.{meaningOf}
 use Rattle.segment.specs.Tidy.{tidyLengthOf, tidyOf}
-use Rattle.segment.specs.Write.{Request, writeOf}
+use Rattle.segment.specs.Write.{Request, entryCount, writeOf}
 use Rattle.c_table.specs.Lent.{tableIn}
 use Rattle.c_answer.specs.Boundary.{replyOf}
 use Rattle.theorem_demands.specs.Tidying.{tidyBytes, Keeps}
@@ -28,7 +28,7 @@ use Rattle.theorem_demands.proofs.Writing.{written-iff, write-keeps, write-back
 use Rattle.theorem_tidiness.proofs.Tidiness.{tidy-iff, kept-is-tidy, tidy-comes-back}
 use Rattle.theorem_three_demands.specs.Answering.{IsRefused}
 use Rattle.theorem_three_demands.specs.Demands.{DemandOne, DemandTwo, CanTidy, DemandThree}
-use Rattle.theorem_three_demands.proofs.Answering.{check-placed, look-up-placed, stepped-stays, tidy-length-placed, tidy-leaves, write-leaves}
+use Rattle.theorem_three_demands.proofs.Answering.{segment-plain, request-plain, check-placed, look-up-placed, stepped-stays, tidy-length-placed, tidy-leaves, write-leaves}
 use Rattle.theorem_three_demands.proofs.Entering.{bits-placed, reply-leaves, step-leaves, sealed-leaves}
 
 length-answered : (l : Length) → lengthAnswer l .number ≡ 0
@@ -54,15 +54,15 @@ demand-one pairs table s key at q out = record {
   write = write-leaves pairs q out;
   lengthIn = λ listed hash. length-answered (lengthIn listed hash);
   number = λ r. in-table (r .0);
-  rawCheck = bits-placed _ (checkOf (tableIn table) s) 0 (check-placed (tableIn table) s);
+  rawCheck = bits-placed (segment-plain s) (checkOf (tableIn table) s) 0 (check-placed (tableIn table) s);
   rawLookUp =
       let p = look-up-placed (tableIn table) s key in
-      reply-leaves _ (replyOf (lookedUp (tableIn table) s key)) out
-      (record { numbered = p .numbered; of-record = p .of-record; otherwise = p .otherwise });
-  rawStep = step-leaves _ (stepped (tableIn table) s at) out (stepped-stays (tableIn table) s at .placed);
-  rawTidyLength = bits-placed _ (tidyLengthOf (tableIn table) s) _ (tidy-length-placed (tableIn table) s);
-  rawTidy = sealed-leaves _ (tidyOf (tableIn table) s out) out (tidy-leaves (tableIn table) s out);
-  rawWrite = sealed-leaves _ (writeOf (tableIn table) q out) out (write-leaves (tableIn table) q out);
+      reply-leaves (segment-plain s) (replyOf (lookedUp (tableIn table) s key)) out
+      (record { numbered = p .numbered; of-item = p .of-item; otherwise = p .otherwise });
+  rawStep = step-leaves (segment-plain s) (stepped (tableIn table) s at) out (stepped-stays (tableIn table) s at .placed);
+  rawTidyLength = bits-placed (segment-plain s) (tidyLengthOf (tableIn table) s) _ (tidy-length-placed (tableIn table) s);
+  rawTidy = sealed-leaves (segment-plain s) (tidyOf (tableIn table) s out) out (tidy-leaves (tableIn table) s out);
+  rawWrite = sealed-leaves (request-plain (entryCount (q .entries))) (writeOf (tableIn table) q out) out (write-leaves (tableIn table) q out);
 }
 
 pub demand-two : (pairs s : List ℕ) (key : Key) (q : Request) (out : List ℕ) → DemandTwo pairs s key q out

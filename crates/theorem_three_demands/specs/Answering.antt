@@ -1,17 +1,19 @@
--- docs/SERVICES.md, "The three demands", the first, of any answer: it is answered, or refused by a number from 1 to 17 and its place; and what is refused leaves
+-- docs/SERVICES.md, "The three demands", the first, of any answer: it is answered, or refused by a number of the table and its place; and what is refused leaves
 -- what it was lent to write to.
---   PlacedAmong   a number of the table, and its place, among so many records or entries
+--   Places        which place each number has: in a segment, and in what write is lent
+--   PlacedBy      a number of the table, and its place
 --   Leaves        and an output, which a refused call leaves
 --   Stays         and a walk, which a refused step leaves where it is
 --   saidIn        the number and the place in what an entry point for C returns
 --   LeavesAt      and a slice, which a refused call of one leaves
 -- Assumes nothing: these are definitions.
-use Prim.Native.Nat.{ℕ, _/_, _%_, _≤_, _<_}
+use Prim.Native.Nat.{ℕ, _/_, _%_, _<_}
 use mathlib.Core.Path.{_≡_}
 use mathlib.Core.Bool.{Bool, true, false, cond, _&&_, _||_}
 use mathlib.Core.List.{List, []}
 use lib.Dec.{leb, eqb}
-use Rattle.answer.specs.Answers.{Answer, answered}
+use Rattle.answer.specs.Answers.{inTable, Answer, answered}
+use Rattle.segment.specs.Format.{v3, headerOf, recordCount, recordAt}
 use Rattle.segment.specs.declared.step.Step.{Step}
 use Rattle.segment.specs.Walk.{nextPlace, stepAnswer}
 use Rattle.segment.specs.Tidy.{Outcome}
@@ -20,29 +22,58 @@ use Rattle.theorem_demands.specs.Answered.{refusedBy}
 
 -- answered, or refused by a number of the table
 abbrev pub Numbered : Answer → Type 0
-Numbered a = a .number ≤ 17
+Numbered a = (eqb (a .number) 0 || inTable (a .number)) ≡ true
 
--- the refusals whose place is a record's number: 7 to 10, 12 and 15
+-- ---- which place a number has
+
+-- at an item, for some numbers, and for every other one where it is said
+pub record Places : Type 1 where
+  pub ofItem : ℕ → Bool
+  pub Item : ℕ → Type 0
+  pub elsewhere : ℕ → ℕ
+
+-- the refusals of one record: 7 to 10 and 12
 abbrev pub ofRecord : ℕ → Bool
-ofRecord number = (leb 7 number && leb number 10) || (eqb number 12 || eqb number 15)
+ofRecord number = (leb 7 number && leb number 10) || eqb number 12
 
--- and with the table's place: the number of one of n records, or entries, for those, otherwise 0
-pub record PlacedAmong (n : ℕ) (a : Answer) : Type 0 where
+-- the byte of the header at which the fields of 51 to 55 begin; otherwise 0
+abbrev pub fieldsAt : ℕ → ℕ
+fieldsAt number =
+    cond (eqb number 51) 48
+    (cond (eqb number 52) 32 (cond (eqb number 53) 64 (cond (eqb number 54) 80 (cond (eqb number 55) 88 0))))
+
+-- a record of the segment begins at a byte
+pub record RecordBegins (s : List ℕ) (byte : ℕ) : Type 0 where
+  pub number : ℕ
+  pub within : number < recordCount (headerOf s)
+  pub here : byte ≡ recordAt v3 (headerOf s) number
+
+-- in a segment: the byte at which the record begins, the byte of the fields, or 0
+abbrev pub inSegment : List ℕ → Places
+inSegment s = record { ofItem = ofRecord; Item = RecordBegins s; elsewhere = fieldsAt }
+
+-- in what write is lent, with so many entries: the entry's number for those and 15, otherwise 0
+abbrev pub inRequest : ℕ → Places
+inRequest n = record { ofItem = λ number. ofRecord number || eqb number 15; Item = λ place. place < n; elsewhere = λ number. 0 }
+
+-- ---- a call that is answered, or refused so
+
+pub record PlacedBy (P : Places) (a : Answer) : Type 0 where
   pub numbered : Numbered a
-  pub of-record : ofRecord (a .number) ≡ true → a .place < n
-  pub otherwise : ofRecord (a .number) ≡ false → a .place ≡ 0
+  pub of-item : P .ofItem (a .number) ≡ true → P .Item (a .place)
+  pub otherwise : P .ofItem (a .number) ≡ false → a .place ≡ P .elsewhere (a .number)
 
 abbrev pub IsRefused : Answer → Type 0
 IsRefused a = ¬ (a .number ≡ 0)
 
 -- and with an output: one that is refused leaves it
-pub record Leaves (n : ℕ) (o : Outcome) (out : List ℕ) : Type 0 where
-  pub placed : PlacedAmong n (o .answer)
+pub record Leaves (P : Places) (o : Outcome) (out : List ℕ) : Type 0 where
+  pub placed : PlacedBy P (o .answer)
   pub kept : IsRefused (o .answer) → o .output ≡ out
 
 -- a step of the walk at a place: one that is refused stays there
-pub record Stays (n : ℕ) (t : Step) (at : ℕ) : Type 0 where
-  pub placed : PlacedAmong n (stepAnswer t)
+pub record Stays (P : Places) (t : Step) (at : ℕ) : Type 0 where
+  pub placed : PlacedBy P (stepAnswer t)
   pub kept : IsRefused (stepAnswer t) → nextPlace t at ≡ at
 
 -- ---- at the C boundary
@@ -59,5 +90,5 @@ abbrev pub saidIn : ℕ → Answer
 saidIn bits = cond (eqb (numberSaid bits) 0) (answered []) (refusedBy (numberSaid bits) (placeSaid bits))
 
 -- what a call returns, and every byte of the slice after it: one that is refused leaves the slice
-abbrev pub LeavesAt : ℕ → Left → List ℕ → Type 0
-LeavesAt n l out = Leaves n (record { answer = saidIn (l .bits); output = l .output }) out
+abbrev pub LeavesAt : Places → Left → List ℕ → Type 0
+LeavesAt P l out = Leaves P (record { answer = saidIn (l .bits); output = l .output }) out

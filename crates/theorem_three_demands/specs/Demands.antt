@@ -8,9 +8,9 @@ use mathlib.Core.List.{List, []}
 use lib.ListN.{length}
 use Rattle.numbers.specs.Numbers.{Bytes}
 use Rattle.answer.specs.declared.Refusal.{Refusal}
-use Rattle.answer.specs.Answers.{numberOf}
+use Rattle.answer.specs.Answers.{inTable, numberOf}
 use Rattle.segment.specs.Keys.{Key, allowsKey}
-use Rattle.segment.specs.Format.{v3, fileLimit, headerOf, recordCount}
+use Rattle.segment.specs.Format.{v3, fileLimit}
 use Rattle.table.specs.Table.{goodTable}
 use Rattle.table_pairs.specs.declared.Pair.{Pair}
 use Rattle.table_pairs.specs.Pairs.{lengthOf}
@@ -29,33 +29,33 @@ use Rattle.theorem_demands.specs.Tidying.{Wrote, tidyBytes, Tidiable, Keeps, Sa
 use Rattle.theorem_demands.specs.Writing.{Lent, writtenBytes, Writes}
 use Rattle.theorem_demands.specs.Asking.{requestFor}
 use Rattle.theorem_tidiness.specs.Tidiness.{IsTidy}
-use Rattle.theorem_three_demands.specs.Answering.{PlacedAmong, IsRefused, Leaves, Stays, saidIn, LeavesAt}
+use Rattle.theorem_three_demands.specs.Answering.{inSegment, inRequest, PlacedBy, IsRefused, Leaves, Stays, saidIn, LeavesAt}
 
 -- ---- demand 1
 
 -- Every public call that may refuse is answered or refused so; that it ends is part of each function's own promise. The others write to nothing. The interface
 -- for Rattle is lent a table of numbers, the entry points for C one of bytes; a key and a request stand for what the calls are lent of them
 pub record DemandOne (pairs table s : List ℕ) (key : Key) (at : ℕ) (q : Request) (out : List ℕ) : Type 0 where
-  pub check : PlacedAmong (recordCount (headerOf s)) (checkOf pairs s)
-  pub lookUp : PlacedAmong (recordCount (headerOf s)) (lookUpOf pairs s key)
+  pub check : PlacedBy (inSegment s) (checkOf pairs s)
+  pub lookUp : PlacedBy (inSegment s) (lookUpOf pairs s key)
   -- `extents_of` hands back nothing where look up refuses
   pub extents : IsRefused (lookUpOf pairs s key) → extentsPart (lookedUp pairs s key) s ≡ []
   -- `next` and `step_from`
-  pub step : Stays (recordCount (headerOf s)) (stepped pairs s at) at
-  pub tidyLength : PlacedAmong (recordCount (headerOf s)) (tidyLengthOf pairs s)
-  pub tidy : Leaves (recordCount (headerOf s)) (tidyOf pairs s out) out
-  pub write : Leaves (entryCount (q .entries)) (writeOf pairs q out) out
+  pub step : Stays (inSegment s) (stepped pairs s at) at
+  pub tidyLength : PlacedBy (inSegment s) (tidyLengthOf pairs s)
+  pub tidy : Leaves (inSegment s) (tidyOf pairs s out) out
+  pub write : Leaves (inRequest (entryCount (q .entries))) (writeOf pairs q out) out
   -- `length_in` refuses nothing
   pub lengthIn : (listed : List Pair) (hash : ℕ) → lengthOf listed hash .number ≡ 0
   -- `number` of any refusal; `place`, `start` and `asl_raw_version` refuse nothing and write to nothing
-  pub number : (r : Refusal) → (1 ≤ numberOf r) × (numberOf r ≤ 17)
+  pub number : (r : Refusal) → inTable (numberOf r) ≡ true
   -- `asl_raw_check`, .. `asl_raw_write`
-  pub rawCheck : PlacedAmong (recordCount (headerOf s)) (saidIn (bitsOf (checkOf (tableIn table) s) 0))
-  pub rawLookUp : LeavesAt (recordCount (headerOf s)) (replyLeft (replyOf (lookedUp (tableIn table) s key)) out) out
-  pub rawStep : LeavesAt (recordCount (headerOf s)) (stepLeft (stepped (tableIn table) s at) out) out
-  pub rawTidyLength : PlacedAmong (recordCount (headerOf s)) (saidIn (lengthBits (tidyLengthOf (tableIn table) s)))
-  pub rawTidy : LeavesAt (recordCount (headerOf s)) (sealedAs (tidyOf (tableIn table) s out)) out
-  pub rawWrite : LeavesAt (entryCount (q .entries)) (sealedAs (writeOf (tableIn table) q out)) out
+  pub rawCheck : PlacedBy (inSegment s) (saidIn (bitsOf (checkOf (tableIn table) s) 0))
+  pub rawLookUp : LeavesAt (inSegment s) (replyLeft (replyOf (lookedUp (tableIn table) s key)) out) out
+  pub rawStep : LeavesAt (inSegment s) (stepLeft (stepped (tableIn table) s at) out) out
+  pub rawTidyLength : PlacedBy (inSegment s) (saidIn (lengthBits (tidyLengthOf (tableIn table) s)))
+  pub rawTidy : LeavesAt (inSegment s) (sealedAs (tidyOf (tableIn table) s out)) out
+  pub rawWrite : LeavesAt (inRequest (entryCount (q .entries))) (sealedAs (writeOf (tableIn table) q out)) out
 
 -- ---- demand 2
 

@@ -7,7 +7,7 @@ use mathlib.Core.List.{List}
 use native.Mathlib.Omega.{arith}
 use borrow.Author.Tests.{leb-true}
 use lib.Dec.{leb, eqb}
-use Rattle.answer.specs.declared.Rule.the-variants.{Layout, Large}
+use Rattle.answer.specs.declared.Rule.the-variants.{Large, LayoutBloom}
 use Rattle.answer.specs.Answers.{refusal}
 use Rattle.answer.proofs.Order.{must-accepted}
 use Rattle.answer.proofs.Places.{Placed, placed-must, placed-then, placed-after, placed-cond, placed-first, placed-rows}
@@ -62,6 +62,6 @@ unfolding requestRules entryVerdict
 request-placed m z sh pairs bloom entries digests extents =
     placed-after _ (placed-must (leb (entryCount entries) recordLimit) Large 0 z) (λ few.
     let n : entryCount entries ≤ recordLimit = leb-true (entryCount entries) recordLimit (must-accepted (leb (entryCount entries) recordLimit) (refusal Large 0) .0 few) in
-    placed-then (placed-must (eqb (bloom % 8) 0) Layout 0 z)
+    placed-then (placed-must (eqb (bloom % 8) 0) LayoutBloom 0 z)
     (placed-then (placed-first (entryCount entries) _ (λ k l. entry-placed sh pairs digests extents (entryNo entries k) (entryPlace k) (omega arith)))
     (placed-first (entryCount entries) _ (λ k l. fresh-placed (entryKey entries digests) entryPlace k (omega arith)))))

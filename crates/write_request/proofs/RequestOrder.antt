@@ -9,7 +9,7 @@ use borrow.Author.Tests.{leb-true, ltb-true, eqb-true}
 use lib.Dec.{leb, ltb, eqb}
 use lib.ListN.{length}
 use Rattle.answer.specs.declared.Refusal.{Refusal}
-use Rattle.answer.specs.declared.Rule.the-variants.{Layout, Record, Digest, Extents, Total, List as ListEnd, Large}
+use Rattle.answer.specs.declared.Rule.the-variants.{LayoutBloom, Record, Digest, Extents, Total, List as ListEnd, Large}
 use Rattle.answer.specs.Answers.{refusal}
 use Rattle.answer.specs.declared.Verdict.{Verdict}
 use Rattle.answer.specs.declared.Verdict.the-variants.{Accepted, Refused}
@@ -143,7 +143,7 @@ module _ (sh : Shape) (pairs entries digests extents : List ℕ) where
     too-many a = simp tests
 
     module _ (a : entryCount entries ≤ 65536) where
-      pub bloom-odd : (bloom % 8 ≡ 0 → ⊥) → Refused (refusal Layout 0) ≡ requestRules sh pairs bloom entries digests extents
+      pub bloom-odd : (bloom % 8 ≡ 0 → ⊥) → Refused (refusal LayoutBloom 0) ≡ requestRules sh pairs bloom entries digests extents
       unfolding requestRules
       bloom-odd b = simp tests
 

@@ -103,7 +103,7 @@ pub fn check_request(
         return Verdict::Refused(Refusal(Rule::Large, 0));
     }
     if bloom % 8 != 0 {
-        return Verdict::Refused(Refusal(Rule::Layout, 0));
+        return Verdict::Refused(Refusal(Rule::LayoutBloom, 0));
     }
     match check_entries(sh, pairs, entries, digests, extents) {
         Verdict::Refused(x) => {

@@ -19,11 +19,17 @@ read c κs =
     let laid = c .before .before .before .before .before .pre in
     (laid .shaped, record-inside laid (c .before .loop .k) (omega arith))
 
+stands : tie.Need-begins-requires Inv-loop μ-loop
+stands c κs =
+    let laid = c .before .before .before .before .before .before .pre in
+    let inside = record-inside laid (c .before .before .loop .k) (omega arith) in
+    omega (arith, laid .most)
+
 refused : tie.Need-returns Inv-loop μ-loop
 refused c =
     let said = c .before .before .before in
     let at = said .before .before in
-    pass-refused _ _ _ _ _ _ _ (at .before .before .loop .inv .1) (at .nth-record .ensures) _ (said .before .place-of .ensures) _ _ (omega arith)
+    pass-refused _ _ _ _ _ _ _ (at .before .before .loop .inv .1) (at .nth-record .ensures) _ (said .before .begins .ensures) _ _ (omega arith)
     (sym (said .check-record .ensures) ∙ c .before .x .given .1)
 
 more : tie.Need-loop-again Inv-loop μ-loop
@@ -33,7 +39,7 @@ more c =
     let at = said .before .before in
     let largest = at .before .before .loop .largest in (
       omega arith,
-      pass-more _ _ _ _ _ _ _ (at .before .before .loop .inv .1) (at .nth-record .ensures) _ (said .before .place-of .ensures) _ (sym (said .check-record .ensures) ∙ passed .enum-told .given .1)
+      pass-more _ _ _ _ _ _ _ (at .before .before .loop .inv .1) (at .nth-record .ensures) _ (said .before .begins .ensures) _ (sym (said .check-record .ensures) ∙ passed .enum-told .given .1)
           (c .larger .ensures ∙ ap (max largest) (c .before .«counts-with» .ensures)),
     )
 
@@ -45,7 +51,7 @@ check-records-spec =
     μ-loop
     (λ c. (omega arith, pass-start _ _ _ _))
     read
-    (λ c κs. search needs)
+    stands
     (λ c κs. laid-inside (c .before .before .before .before .before .before .before .pre))
     (λ c. search needs)
     refused

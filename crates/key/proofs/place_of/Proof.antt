@@ -1,6 +1,6 @@
 -- `key::place_of` meets its contract: each kind's own place.
 use borrow.Author.Needs.{needs}
-use Rattle.key.proofs.KeyColumns.{record-place, entry-place}
+use Rattle.key.proofs.KeyColumns.{record-place, record-begins, entry-place}
 use Rattle.key.proofs.place_of.Statement.{statement}
 use Rattle.key.proofs.place_of.Tie as tie
 
@@ -9,8 +9,8 @@ place-of-spec =
     tie.close
     (tie.spec
     (λ c. search needs)
-    (λ c κs. search needs)
+    (λ c κs. record-begins _ _ _ _ (c .before .kind .given .1) (c .before .before .before .pre))
     (λ c. search needs)
     (λ c κs. search needs)
-    (λ c. record-place _ _ _ _ (c .before .before .kind .given .1) (c .place-of .ensures))
-    (λ c. entry-place _ _ (c .before .enum-told .given .1) (c .place-of2 .ensures)))
+    (λ c. record-place _ _ _ _ (c .before .before .kind .given .1) (c .begins .ensures))
+    (λ c. entry-place _ _ (c .before .enum-told .given .1) (c .place-of .ensures)))

@@ -9,6 +9,7 @@ use Rattle.answer.specs.declared.Verdict.the-variants.{Accepted}
 use Rattle.answer.specs.Rules.{firstOver, someBelow}
 use Rattle.answer.proofs.Order.{none-yet}
 use Rattle.key.proofs.Duplicates.{keys-book}
+use Rattle.key.proofs.KeyColumns.{place-fits}
 use Rattle.segment.specs.Keys.{sameKey, freshKey}
 use Rattle.key.specs.Items.{itemKey, itemPlace}
 use Rattle.key_duplicate.proofs.Scanning.{another, passed, found-twice, found-nowhere, stopped-before, stopped-at-end}
@@ -43,6 +44,11 @@ new c =
     let loop = c .before .loop in
     passed _ _ _ (c .before .before .before .pairs .inv .1) _ (loop .j) (c .before .before .if1 .left) (c .loop-test .left) (loop .inv .0) (loop .inv .1)
 
+has-place : tie.Need-place-of-requires Inv-loop μ-loop Inv-pairs μ-pairs
+has-place c κs =
+    let items = c .before .before .before .before .before .pre .0 in
+    place-fits _ _ _ _ (items .each _ (c .if3 .taken)) (omega arith) (omega arith)
+
 duplicate : tie.Need-returns Inv-loop μ-loop Inv-pairs μ-pairs
 duplicate c =
     ⊎-elim
@@ -75,6 +81,6 @@ scan-keys-spec =
     (λ c. omega arith)
     (λ c. omega arith)
     new
-    (λ c κs. search needs)
+    has-place
     duplicate
     all-new)

@@ -11,6 +11,11 @@ use Rattle.segment.specs.Check.{
   sizeVerdict,
   headVerdict,
   layoutVerdict,
+  bloomLaid,
+  recordsLaid,
+  digestsLaid,
+  extentsLaid,
+  lengthLaid,
   checksumVerdict,
   marksVerdict,
   digestVerdict,
@@ -40,7 +45,7 @@ use Rattle.theorem_two_orders.proofs.segments.Statement.{statement}
 use Rattle.theorem_two_orders.proofs.segments.Tie as tie
 
 returns : tie.Need-returns
-unfolding le numAt step steps byte run crc firstOver someBelow headerOf recordOf extentOf footerOf recordNo extentsAt stands goodPairs goodTable allows tableVerdict eqList freshKey sizeVerdict headVerdict layoutVerdict checksumVerdict marksVerdict digestVerdict goneExtents liveExtents extentsVerdict allFit sumLengths liveTotal totalVerdict recordRules recordVerdict visibilityNo largestBelow visibilityVerdict digestIn keyNo segmentRules segmentVerdict checked checkOf rowOf rowNo countFrom rowsOf headingOf meaningOf allBytes
+unfolding le numAt step steps byte run crc firstOver someBelow headerOf recordOf extentOf footerOf recordNo extentsAt stands goodPairs goodTable allows tableVerdict eqList freshKey sizeVerdict headVerdict layoutVerdict bloomLaid recordsLaid digestsLaid extentsLaid lengthLaid checksumVerdict marksVerdict digestVerdict goneExtents liveExtents extentsVerdict allFit sumLengths liveTotal totalVerdict recordRules recordVerdict visibilityNo largestBelow visibilityVerdict digestIn keyNo segmentRules segmentVerdict checked checkOf rowOf rowNo countFrom rowsOf headingOf meaningOf allBytes
 returns c = (held _ _ refl refl refl, held _ _ refl refl refl)
 
 pub segments-spec : {M : Type 1} → statement M
