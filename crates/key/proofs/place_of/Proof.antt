@@ -1,4 +1,5 @@
 -- `key::place_of` meets its contract: each kind's own place.
+use native.Mathlib.Omega.{arith}
 use borrow.Author.Needs.{needs}
 use Rattle.key.proofs.KeyColumns.{record-place, record-begins, entry-place}
 use Rattle.key.proofs.place_of.Statement.{statement}
@@ -9,7 +10,7 @@ place-of-spec =
     tie.close
     (tie.spec
     (λ c. search needs)
-    (λ c κs. record-begins _ _ _ _ (c .before .kind .given .1) (c .before .before .before .pre))
+    (λ c κs. let l = record-begins _ _ _ _ (c .before .kind .given .1) (c .before .before .before .pre) in omega arith)
     (λ c. search needs)
     (λ c κs. search needs)
     (λ c. record-place _ _ _ _ (c .before .before .kind .given .1) (c .begins .ensures))
