@@ -48,9 +48,8 @@ static void fixture(struct bytes segment, const char *service, struct wanted w) 
 }
 
 static int is_known(const char *service) {
-    static const char *const known[] = {"check", "look-up", "step", "tidy-length", "tidy", "write"};
-    for (size_t i = 0; i < sizeof known / sizeof *known; i++)
-        if (strcmp(service, known[i]) == 0) return 1;
+    for (int i = 0; i < SERVICES; i++)
+        if (strcmp(service, service_names[i]) == 0) return 1;
     return 0;
 }
 

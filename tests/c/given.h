@@ -1,7 +1,9 @@
-// can_give(service, number): which number each of the six calls can answer, 0 among them.
+// The six calls, by number and by name; and can_give(service, number): which number each of them can answer, 0 among
+// them. tests/independent/compare.py says the last by itself, and test_compare.py there holds the two to each other.
 #include "asl.h"
 
 enum { CHECK, LOOK_UP, STEP, TIDY_LENGTH, TIDY, WRITE, SERVICES };
+static const char *const service_names[SERVICES] = {"check", "look-up", "step", "tidy-length", "tidy", "write"};
 enum { NUMBERS = 256 };
 
 static int can_give(int service, unsigned number) {

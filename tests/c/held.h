@@ -18,7 +18,6 @@ enum { HASH_ID = 0, DIGEST_OFFSET = 8, EXTENTS_OFFSET = 16, EXTENT_COUNT = 24, T
 enum { SEAL_SNAPSHOT = 8, SEAL_TIME = 16 };
 enum { FOUND = 64, FIELDS = 104, FIELD_COUNT = 13 };
 enum { CANARY = 64, ROOM = 65536, PATTERN = 0x5A };
-static const char *const service_names[SERVICES] = {"check", "look-up", "step", "tidy-length", "tidy", "write"};
 
 struct bytes {
     const void *at;

@@ -2,10 +2,10 @@
 // part of their answers differs, or the call cannot answer so. plain.c is compiled with the fuzzer's counters, so its
 // branches, one for each rule, lead to new inputs. Every buffer is lent at exactly its size (lend.h).
 //
-// The input: a byte whose low three bits are the service and whose next bit makes the checksum right; a byte for the
-// table; two bytes for the room. Look up goes on with a hash id, a length and that many digest bytes, step with the
-// record's number, write with the sizes of its lists and their numbers, the others with nothing; what is left is the
-// segment.
+// The input: a byte whose low three bits are the service, as given.h counts them (0 check, 1 look up, 2 step, 3 tidy
+// length, 4 tidy, 5 write, and from 0 again), and whose next bit makes the checksum right; a byte for the table; two
+// bytes for the room. Look up goes on with a hash id, a length and that many digest bytes, step with the record's
+// number, write with the sizes of its lists and their numbers, the others with nothing; what is left is the segment.
 #include <stdio.h>
 #include <string.h>
 
@@ -207,13 +207,13 @@ int LLVMFuzzerTestOneInput(const uint8_t *input, size_t size) {
     ask(&library, &q, &ours);
     ask(&plain, &q, &theirs);
     if (memcmp(&ours, &theirs, sizeof ours) != 0) {
-        fprintf(stderr, "service %d: the library's answer is %#llx, plain.c's %#llx, and the bytes are %s\n", q.service,
-                (unsigned long long)ours.bits, (unsigned long long)theirs.bits,
+        fprintf(stderr, "%s: the library's answer is %#llx, plain.c's %#llx, and the bytes are %s\n",
+                service_names[q.service], (unsigned long long)ours.bits, (unsigned long long)theirs.bits,
                 memcmp(ours.out, theirs.out, sizeof ours.out) == 0 ? "the same" : "others");
         abort();
     }
     if (!can_answer(&q, (asl_answer){ours.bits})) {
-        fprintf(stderr, "service %d: it has no answer %#llx\n", q.service, (unsigned long long)ours.bits);
+        fprintf(stderr, "%s: it has no answer %#llx\n", service_names[q.service], (unsigned long long)ours.bits);
         abort();
     }
     return 0;

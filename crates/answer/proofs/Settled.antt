@@ -84,6 +84,9 @@ ruleNumber-one LayoutLength = (refl, refl)
 pub in-table : (r : Rule) → inTable (ruleNumber r) ≡ true
 in-table r = ruleNumber-one r .1
 
+pub no-5 : inTable 5 ≡ false
+no-5 = refl
+
 -- how large the table's numbers are
 between : (low high n : ℕ) → 1 ≤ low → high ≤ 55 → (leb low n && leb n high) ≡ true → (1 ≤ n) × (n ≤ 55)
 between low high n a b e =

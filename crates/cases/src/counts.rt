@@ -3,29 +3,8 @@ ghost use mathlib.Core.Path.{_≡_};
 ghost use Prim.Native.Nat.{_*_};
 ghost use lib.ListN.{length};
 ghost use Rattle.segment.specs.Format.{entrySize};
+use crate::said;
 use asl::Heading;
-use asl::Written;
-
-// One line: what was asked, and what write answered.
-fn show(name: &[u8], answer: Written) {
-    io::write_all(1, name);
-    match answer {
-        Written::Done(n) => {
-            io::write_all(1, b": written\n");
-        }
-        Written::Refused(r) => match asl::number(r) {
-            16 => {
-                io::write_all(1, b": refused 16\n");
-            }
-            13 => {
-                io::write_all(1, b": refused 13\n");
-            }
-            _ => {
-                io::write_all(1, b": refused otherwise\n");
-            }
-        },
-    }
-}
 
 fn ask(name: &[u8], entries: &[u64], digests: &[u8]) {
     let table = [7u64, 2];
@@ -38,7 +17,7 @@ fn ask(name: &[u8], entries: &[u64], digests: &[u8]) {
         seal_time: 0,
     };
     let mut out = [0u8; 8];
-    show(
+    said::wrote(
         name,
         asl::write(
             &table,

@@ -2,6 +2,8 @@
 // whose values come from the publications and not from a run of this program.
 mod checksums;
 mod counts;
+mod places;
+mod said;
 
 fn main() {
     checksums::of_text();
@@ -10,4 +12,8 @@ fn main() {
     checksums::of_a_mebibyte();
     counts::most();
     counts::too_many();
+    places::of_lengths();
+    places::of_a_great_bloom();
+    places::of_two_bad_records();
+    places::of_odd_bloom_bytes();
 }

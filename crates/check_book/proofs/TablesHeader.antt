@@ -34,7 +34,7 @@ use Rattle.table.specs.Table.{goodTable, tableVerdict}
 use Rattle.segment.specs.Check.{sizeVerdict, headVerdict, bloomLaid, recordsLaid, digestsLaid, extentsLaid, lengthLaid, layoutVerdict, checksumVerdict}
 use Rattle.segment.proofs.Shapes.{shaped-divides}
 use Rattle.segment.specs.Meets.{SizeMeets, HeaderMeets, LayoutMeets, ChecksumMeets}
-use Rattle.segment.specs.Layout.{BloomLies, RecordsLie, DigestsLie, ExtentsLie, LengthFits}
+use Rattle.check_book.specs.Layout.{BloomLies, RecordsLie, DigestsLie, ExtentsLie, LengthFits}
 use Rattle.check_book.proofs.OneRefusal.{Only, only-rows, broken}
 
 -- ---- 14

@@ -3,7 +3,6 @@ pub mod Shapes
 pub mod Keys
 pub mod Check
 pub mod Meets
-pub mod Layout
 pub mod Meaning
 pub mod Tidy
 pub mod LookUp

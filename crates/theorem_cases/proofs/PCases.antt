@@ -25,7 +25,7 @@ use Rattle.table.specs.Table.{goodTable, allows}
 use Rattle.segment.specs.Keys.{Key, allowsKey}
 use Rattle.lists.specs.Lists.{lexLeq, insert, sortBy, Each}
 use Rattle.segment.specs.Check.{sizeVerdict, headVerdict, layoutVerdict, bloomLaid, recordsLaid, digestsLaid, extentsLaid, lengthLaid, sumLengths, visibilityNo, digestIn, recordKey, keyNo, checkOf}
-use Rattle.segment.specs.Layout.{BloomLies}
+use Rattle.check_book.specs.Layout.{BloomLies}
 use Rattle.segment.specs.Meets.{LayoutMeets, SumMeets, TotalMeets, RecordMeets, VisibilityMeets, KeysDiffer, Meets}
 use Rattle.segment.specs.Meaning.{Row, rowKey, sourceOf}
 use Rattle.segment.specs.Tidy.{

@@ -20,7 +20,7 @@ use Rattle.table.specs.Table.{goodTable}
 use Rattle.segment.specs.Keys.{freshKey}
 use Rattle.segment.specs.Check.{recordVerdict, keyNo, checked, checkOf}
 use Rattle.segment.specs.Meets.{MarksMeet, DigestMeets, RecordMeets}
-use Rattle.segment.specs.Layout.{BloomLies, RecordsLie, DigestsLie, ExtentsLie}
+use Rattle.check_book.specs.Layout.{BloomLies, RecordsLie, DigestsLie, ExtentsLie}
 use Rattle.key.proofs.Duplicates.{refused-twice}
 use Rattle.theorem_demands.specs.Refusals.{
   MagicMeets,

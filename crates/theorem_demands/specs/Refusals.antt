@@ -45,7 +45,7 @@ use Rattle.segment.specs.Meets.{
   RecordMeets,
   VisibilityMeets,
 }
-use Rattle.segment.specs.Layout.{BloomLies, RecordsLie, DigestsLie, ExtentsLie, LengthFits}
+use Rattle.check_book.specs.Layout.{BloomLies, RecordsLie, DigestsLie, ExtentsLie, LengthFits}
 
 -- ---- the rules that the rule book has no name for: 2 and 3
 

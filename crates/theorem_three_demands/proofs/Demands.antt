@@ -6,7 +6,7 @@ use mathlib.Core.List.{List, []}
 use Rattle.answer.specs.declared.Found.{Found}
 use Rattle.answer.specs.declared.Found.the-variants.{Absent, Gone, Present, Refused as NotFound}
 use Rattle.answer.specs.Answers.{foundAnswer}
-use Rattle.answer.proofs.Settled.{in-table}
+use Rattle.answer.proofs.Settled.{in-table, no-5}
 use Rattle.table_pairs.specs.declared.Length.{Length}
 use Rattle.table_pairs.specs.declared.Length.the-variants.{Known, Unknown}
 use Rattle.table_pairs.specs.Pairs.{lengthIn, lengthAnswer, lengthOf}
@@ -54,6 +54,7 @@ demand-one pairs table s key at q out = record {
   write = write-leaves pairs q out;
   lengthIn = λ listed hash. length-answered (lengthIn listed hash);
   number = λ r. in-table (r .0);
+  gap = no-5;
   rawCheck = bits-placed (segment-plain s) (checkOf (tableIn table) s) 0 (check-placed (tableIn table) s);
   rawLookUp =
       let p = look-up-placed (tableIn table) s key in

@@ -2,7 +2,7 @@
 -- Assumes nothing: these are definitions.
 use Prim.Native.Nat.{ℕ, _≤_}
 use mathlib.Core.Path.{_≡_}
-use mathlib.Core.Bool.{true}
+use mathlib.Core.Bool.{true, false}
 use mathlib.Core.Logic.{_↔_}
 use mathlib.Core.List.{List, []}
 use lib.ListN.{length}
@@ -49,6 +49,8 @@ pub record DemandOne (pairs table s : List ℕ) (key : Key) (at : ℕ) (q : Requ
   pub lengthIn : (listed : List Pair) (hash : ℕ) → lengthOf listed hash .number ≡ 0
   -- `number` of any refusal; `place`, `start` and `asl_raw_version` refuse nothing and write to nothing
   pub number : (r : Refusal) → inTable (numberOf r) ≡ true
+  -- which 5 is not
+  pub gap : inTable 5 ≡ false
   -- `asl_raw_check`, .. `asl_raw_write`
   pub rawCheck : PlacedBy (inSegment s) (saidIn (bitsOf (checkOf (tableIn table) s) 0))
   pub rawLookUp : LeavesAt (inSegment s) (replyLeft (replyOf (lookedUp (tableIn table) s key)) out) out
