@@ -104,16 +104,19 @@ enum asl_refusal {
     ASL_REFUSED_KEY = 17,        /* look up: hash id unknown, or digest length not the table's */
 
     /* The layout of the sections, by sums over whole numbers, never modulo 2^64. Write gives 51 alone of these. */
-    ASL_REFUSED_LAYOUT_BLOOM = 51,   /* bloom offset wrong (0 if bloom size is 0, else 112); size no multiple of 8 */
-    ASL_REFUSED_LAYOUT_RECORDS = 52, /* more than ASL_RECORDS_LIMIT records; records offset not 112 + bloom size */
-    ASL_REFUSED_LAYOUT_DIGESTS = 53, /* digests offset not records offset + 48 * records; its size no multiple of 8 */
+    ASL_REFUSED_LAYOUT_BLOOM = 51,   /* bloom offset wrong (0 if bloom size is 0, else 112),
+                                        or bloom size no multiple of 8 */
+    ASL_REFUSED_LAYOUT_RECORDS = 52, /* more than ASL_RECORDS_LIMIT records, or records offset not 112 + bloom size */
+    ASL_REFUSED_LAYOUT_DIGESTS = 53, /* digests offset not records offset + 48 * record count,
+                                        or digests size no multiple of 8 */
     ASL_REFUSED_LAYOUT_EXTENTS = 54, /* extents offset not digests offset + digests size */
     ASL_REFUSED_LAYOUT_LENGTH = 55   /* length of the segment not extents offset + 16 * extent count + 24 */
 };
 
 /*
  * The refusal's name (docs/SERVICES.md, "Refusals"), "ok" for 0, and "unknown" for what is no refusal's number. 9 and
- * 54 have one name, "extents": the number tells them apart.
+ * 54 have one name, "extents", and the names of 7 and 52, "record" and "records", and of 8 and 53, "digest" and
+ * "digests", differ in one letter. The number tells them apart, so a log should print it.
  */
 static inline const char *asl_refusal_name(uint64_t number) {
     switch (number) {

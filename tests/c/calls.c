@@ -402,19 +402,25 @@ static void take_back(struct writing a) {
     free((void *)a.extents.at);
 }
 
-// A field of record 3 changed, in a segment with 16 bloom bytes: the record begins at 112 + 16 + 48 * 3, the place.
+// The number of the record for which a segment is refused, as docs/C.md says that a caller finds it.
+static uint64_t refused_record(const uint8_t *segment, asl_answer a) {
+    return (asl_place(a) - asl_little_endian(segment + 40, 8)) / ASL_RECORD_SIZE;
+}
+
+// A field of record 3 changed, in a segment with 64 bloom bytes: the record begins at 112 + 64 + 48 * 3, the place.
 static void changed_record(struct bytes written, size_t field, uint64_t value, int size, uint64_t number) {
     struct bytes segment = copy(written);
     uint8_t *at = (uint8_t *)segment.at;
-    put(at + 272 + field, value, size);
+    put(at + 320 + field, value, size);
     seal(at, segment.size);
     calling("the number at byte %zu of record 3 is %" PRIu64, field, value);
-    to_each(segment, refused(number, 272));
+    to_each(segment, refused(number, 320));
+    expect(refused_record(at, asl_check(pairs, 2, at, segment.size)) == 3, CHECK, "another record by docs/C.md");
     free(at);
 }
 
 static void bad_records_after_bloom(void) {
-    static const uint8_t bloom[16] = {0};
+    static const uint8_t bloom[64] = {0};
     struct writing a = many(4, 1);
     a.bloom = (struct bytes){bloom, sizeof bloom};
     a.room += sizeof bloom;

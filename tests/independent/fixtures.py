@@ -237,19 +237,19 @@ def write_arguments(**changes):
             "digests": (KEY_7D + KEY_7E).hex(), "extents": [[9, 64, 3]], "room": 256, **changes}
 
 
-def second_entry(bloom="", **changes):
+def second_entry(bloom="", extents=((9, 64, 3),), **changes):
     """Case L as write's arguments with the gone entry changed."""
     names = ("hash_id", "digest_start", "digest_length", "visibility", "imported", "source",
              "gone", "first_extent", "extent_count")
     entry = list(GONE_ENTRY)
     for name, value in changes.items():
         entry[names.index(name)] = value
-    return write_arguments(entries=[LIVE_ENTRY, entry], bloom=bloom)
-
-
-def one_entry(*extents):
-    return write_arguments(entries=[[7, 0, 4, 1, 0, 0, 0, 0, len(extents)]],
+    return write_arguments(entries=[LIVE_ENTRY, entry], bloom=bloom,
                            extents=[list(extent) for extent in extents])
+
+
+def one_entry(extent):
+    return write_arguments(entries=[LIVE_ENTRY], extents=[list(extent)])
 
 
 # (name, arguments, place)
@@ -285,10 +285,12 @@ ARGUMENTS = [
     ("09-write-gone-with-first", second_entry(first_extent=1), 1),
     ("09-write-gone-with-count", second_entry(extent_count=1), 1),
     ("09-write-live-with-none", second_entry(gone=0), 1),
-    # 10: an extent that passes 2^32, one too wide though it does not, a sum that does not fit.
+    # 10: an extent that passes 2^32, one too wide though it does not; a sum that does not fit, of
+    # the first entry's extent and another.
     ("10-write-extent-passes", one_entry((9, 2**32 - 1, 2)), 0),
     ("10-write-offset-too-wide", one_entry((9, 2**32, 0)), 0),
-    ("10-write-sum", one_entry((9, 0, 2**31), (9, 0, 2**31)), 0),
+    ("10-write-sum", second_entry(gone=0, extent_count=2,
+                                  extents=((9, 0, 2**31), (9, 0, 2**31))), 1),
     # 12: the first entry's key again; and the second one's in the fourth, after bloom bytes.
     ("12-write-duplicate", second_entry(digest_start=0), 1),
     ("12-write-after-bloom", write_arguments(

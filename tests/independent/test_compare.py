@@ -3,6 +3,7 @@ and has nothing to say against the right one."""
 
 import io
 import random
+import re
 import struct
 import sys
 import unittest
@@ -16,7 +17,7 @@ import wrong
 from askers import Driver, ask_here
 from case import DONE, Answer, answer_of
 from cases import listing_cases, random_cases, systematic_cases
-from compare import MOST_SHOWN, Tally
+from compare import MOST_SHOWN, POSSIBLE, Tally
 from properties import property_problems
 from protocol import Reader, encode_answer, encode_case
 from shapes import any_meaning
@@ -127,6 +128,16 @@ class BrokenDrivers(unittest.TestCase):
         cases = DRIVER_CASES[:10] + [deadly] + DRIVER_CASES[10:20]
         tally = driver_tally(command, cases)
         self.assertEqual((tally.passed, tally.failed), (21, 1))
+
+
+class Possible(unittest.TestCase):
+    def test_as_the_tests_in_c_have_it(self):
+        """tests/c/given.h says by itself which numbers each call can give, 0 besides."""
+        given = (HERE.parent / "c/given.h").read_text()
+        rows = re.findall(r"\[([A-Z_]+)\] = \{([0-9, ]+)\}", given)
+        self.assertEqual({service.lower().replace("_", " "): sorted([0, *map(int, row.split(","))])
+                          for service, row in rows},
+                         {kind: sorted(numbers) for kind, numbers in POSSIBLE.items()})
 
 
 class Counting(unittest.TestCase):

@@ -198,10 +198,13 @@ def one_number_for_the_layout(layout_rules):
 
 
 def digests_at_their_size(layout_rules):
-    """Refuses 53 at the field that is no multiple of 8, in place of where its fields begin."""
-    return lambda *arguments: [
-        (broken, number, 72 if number == asl.No.LAYOUT_DIGESTS else place)
-        for broken, number, place in layout_rules(*arguments)]
+    """Refuses 53 at digests size where that is no multiple of 8, in place of where its fields
+    begin."""
+    def wrong(header, file_length):
+        at_size = header.digests_size % 8 != 0
+        return [(broken, number, 72 if number == asl.No.LAYOUT_DIGESTS and at_size else place)
+                for broken, number, place in layout_rules(header, file_length)]
+    return wrong
 
 
 def number_of_the_record(_):

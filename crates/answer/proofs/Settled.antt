@@ -1,16 +1,16 @@
 -- An answer's numbers settle it: two refusals with one number and one place are equal, and so are two answers of a service
 -- that say the same in numbers. Each by a function that takes the numbers back.
 -- Assumes nothing.
-use Prim.Native.Nat.{ℕ, zero, suc, _≤_}
+use Prim.Native.Nat.{ℕ, zero, suc, _≤_, _<_}
 use mathlib.Core.Path.{_≡_, refl, sym, ap, ap₂, _∙_}
-use mathlib.Core.Bool.{true, false, cond, _&&_, _||_}
+use mathlib.Core.Bool.{Bool, true, false, cond, not, _&&_, _||_, true≢false}
 use mathlib.Core.Logic.{⊎-elim}
 use mathlib.Core.List.{List, [], _∷_}
 use native.Mathlib.Omega.{arith}
-use borrow.Author.Tests.{ne-eqb, leb-true}
+use borrow.Author.Tests.{ne-eqb, eqb-true, leb-true}
 use lib.Dec.{eqb, leb}
 use lib.ListN.{length, getD}
-use Rattle.lists.proofs.Tests.{and-iff, or-either}
+use Rattle.lists.proofs.Tests.{by-test, and-iff, or-either}
 use Rattle.answer.specs.declared.Refusal.{Refusal}
 use Rattle.answer.specs.declared.Rule.{Rule}
 use Rattle.answer.specs.declared.Rule.the-variants.{
@@ -44,6 +44,8 @@ use Rattle.answer.specs.declared.Found.{Found}
 use Rattle.answer.specs.declared.Found.the-variants.{Absent, Gone, Present, Refused as FoundRefused}
 use Rattle.answer.specs.declared.Written.{Written}
 use Rattle.answer.specs.declared.Written.the-variants.{Done, Refused as WrittenRefused}
+use Rattle.answer.specs.Rules.{someBelow}
+use Rattle.answer.proofs.Order.{some-found}
 use Rattle.answer.specs.Answers.{ruleNumber, inTable, refusal, numberOf, placeOf, Answer, refused, checkAnswer, foundAnswer, writtenAnswer}
 
 -- the rules, in no order; and the first of some rules that has a number
@@ -87,20 +89,44 @@ in-table r = ruleNumber-one r .1
 pub no-5 : inTable 5 ≡ false
 no-5 = refl
 
--- how large the table's numbers are
+-- the table's numbers are small, and each is a rule's
 between : (low high n : ℕ) → 1 ≤ low → high ≤ 55 → (leb low n && leb n high) ≡ true → (1 ≤ n) × (n ≤ 55)
 between low high n a b e =
     let p = and-iff (leb low n) (leb n high) .0 e in
     omega (arith, leb-true low n (p .0), leb-true n high (p .1))
 
-pub table-small : (n : ℕ) → inTable n ≡ true → (1 ≤ n) × (n ≤ 55)
-table-small n e =
+table-within : (n : ℕ) → inTable n ≡ true → (1 ≤ n) × (n ≤ 55)
+table-within n e =
     ⊎-elim (between 1 4 n (omega arith) (omega arith))
     (λ f. ⊎-elim (between 6 17 n (omega arith) (omega arith)) (between 51 55 n (omega arith) (omega arith)) (or-either (leb 6 n && leb n 17) (leb 51 n && leb n 55) f))
     (or-either (leb 1 n && leb n 4) ((leb 6 n && leb n 17) || (leb 51 n && leb n 55)) e)
 
+pub table-small : (n : ℕ) → inTable n ≡ true → (1 ≤ n) × (n < 256)
+table-small n e = omega (arith, table-within n e)
+
+-- whether a number of the table is no rule's: none of those up to 55 is so
+spare : ℕ → Bool
+spare n = inTable n && not (eqb (ruleNumber (numbered rules n)) n)
+
+none-spare : someBelow 56 spare ≡ false
+unfolding someBelow spare rules numbered
+none-spare = refl
+
+rule-there : (n : ℕ) → inTable n ≡ true → ruleNumber (numbered rules n) ≡ n
+unfolding spare
+rule-there n e =
+    by-test (eqb (ruleNumber (numbered rules n)) n)
+    (eqb-true (ruleNumber (numbered rules n)) n)
+    (λ f.
+    let here : spare n ≡ true = rw (e, f) in
+    absurd (true≢false (sym (some-found 56 n spare (omega (arith, table-within n e)) here) ∙ none-spare)))
+
 pub refusalOf : ℕ → ℕ → Refusal
 refusalOf n p = refusal (numbered rules n) p
+
+pub table-full : (n : ℕ) → inTable n ≡ true → numberOf (refusalOf n 0) ≡ n
+unfolding refusalOf
+table-full n e = rule-there n e
 
 refusal-back : (r : Refusal) → refusalOf (numberOf r) (placeOf r) ≡ r
 unfolding refusalOf

@@ -43,7 +43,7 @@ some : 0 < valueLimit
 some = lit< tt
 
 under-placed : (pairs s : List ℕ) → Placed valueLimit (segmentVerdict v3 pairs s)
-under-placed pairs s = segment-placed (lit< tt) v3 v3-shaped pairs s
+under-placed pairs s = segment-placed (omega arith) v3 v3-shaped pairs s
 
 check-placed : (pairs s : List ℕ) → Placed valueLimit (checked pairs s)
 unfolding checked

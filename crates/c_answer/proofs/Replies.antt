@@ -96,7 +96,7 @@ state-small (Refused r) = lit< tt
 
 -- a refusal's number has a byte
 pub rule-small : (q : Rule) → ruleNumber q < 256
-rule-small q = omega (arith, table-small (ruleNumber q) (in-table q))
+rule-small q = table-small (ruleNumber q) (in-table q) .1
 
 number-small : (f : Found) → replyOf f .number < 256
 unfolding replyOf

@@ -1,7 +1,6 @@
 // The cases of docs/SERVICES.md, "Cases", that are refused at a byte of the file, of case L; and write's bloom, which has no file.
 use crate::said;
 use asl::Heading;
-use asl::Written;
 
 const TABLE: [u64; 2] = [7, 4];
 
@@ -36,7 +35,7 @@ fn check_first(name: &[u8], file: &[u8], n: usize) {
 // Case L is 256 bytes long: shorter beginnings, and one byte more.
 pub fn of_lengths() {
     let mut file = [0u8; 257];
-    write_case_l(b"case L", b"", &mut file);
+    write_case_l(b"case L to be cut", b"", &mut file);
     check_first(b"its 256 bytes", &file, 256);
     check_first(b"all but its last byte", &file, 255);
     check_first(b"one byte more", &file, 257);
@@ -56,12 +55,12 @@ fn change(file: &mut [u8], at: usize, v: u32) {
 // Bloom offset 112, bloom size 2^64 - 112, records offset 0.
 pub fn of_a_great_bloom() {
     let mut file = [0u8; 256];
-    write_case_l(b"case L", b"", &mut file);
+    write_case_l(b"case L to have a great bloom", b"", &mut file);
     change(&mut file, 40, 0);
     change(&mut file, 48, 112);
     change(&mut file, 56, 4294967184);
     change(&mut file, 60, 4294967295);
-    check_first(b"a bloom size of 2^64 - 112", &file, 256);
+    check_first(b"its bloom size 2^64 - 112", &file, 256);
 }
 
 // The right checksum, of all bytes before the footer.
@@ -76,14 +75,14 @@ fn seal(file: &mut [u8]) {
 // The total of record 0, at 112 + 28, and the flags of record 1, at 160 + 44.
 pub fn of_two_bad_records() {
     let mut file = [0u8; 256];
-    write_case_l(b"case L", b"", &mut file);
+    write_case_l(b"case L to be damaged", b"", &mut file);
     change(&mut file, 140, 4);
     change(&mut file, 204, 3);
     seal(&mut file);
-    check_first(b"a bad total and then a bad flag", &file, 256);
+    check_first(b"its first total and its last flags bad", &file, 256);
 }
 
 pub fn of_odd_bloom_bytes() {
     let mut out = [0u8; 8];
-    write_case_l(b"7 bloom bytes", b"7 bytes", &mut out);
+    write_case_l(b"case L with 7 bloom bytes", b"7 bytes", &mut out);
 }

@@ -44,7 +44,7 @@ segment-book sh w pairs s =
       λ m. (m .size, ((m .magic, m .version, m .header), (m .layout, (m .checksum, (m .each, (m .visibility, m .distinct)))))),
     )
 
--- under a good table check answers by 1 to 12
+-- under a good table check answers by every rule but 14
 pub under-table : (pairs s : List ℕ) → goodTable pairs ≡ true → checked pairs s ≡ segmentVerdict v3 pairs s
 unfolding checked
 under-table pairs s g = rw (table-book pairs .1 g)

@@ -14,6 +14,7 @@ use Rattle.segment.specs.declared.record.Record.{Record}
 use Rattle.segment.specs.declared.shape.Shape.{Shape}
 use Rattle.segment.specs.Format.{headerSize, fileLimit, headerOf, recordCount, recordAt, recordNo}
 use Rattle.segment.specs.Shapes.{Shaped}
+use Rattle.segment.proofs.Shapes.{shaped-least}
 use Rattle.key.proofs.Duplicates.{fresh-placed}
 use Rattle.segment.specs.Check.{
   sizeVerdict,
@@ -96,15 +97,15 @@ module _ {b : ℕ} (sh : Shape) (pairs s : List ℕ) (h : Header) (r : Record) (
   record-placed = placed-then marks-placed (placed-then digest-placed (placed-then extents-placed total-placed))
 
 -- a record of a segment that is sized and laid out begins inside it
-record-below : {b : ℕ} → fileLimit < b → (sh : Shape) → Shaped sh → (s : List ℕ) → sizeVerdict (length s) ≡ Accepted
+record-below : {b : ℕ} → fileLimit ≤ b → (sh : Shape) → Shaped sh → (s : List ℕ) → sizeVerdict (length s) ≡ Accepted
     → layoutVerdict sh (headerOf s) (length s) ≡ Accepted → (k : ℕ) → k < recordCount (headerOf s) → recordAt sh (headerOf s) k < b
 record-below l sh w s sized laid k i =
     let most = size-book s .0 sized .most in
     let here = record-inside (record { shaped = w; layout = layout-book sh w s (headerOf s) .0 laid; most = most }) k i in
-    omega arith
+    omega (arith, shaped-least sh w)
 
--- so every place is below a bound that is above the largest file
-pub segment-placed : {b : ℕ} → fileLimit < b → (sh : Shape) → Shaped sh → (pairs s : List ℕ) → Placed b (segmentVerdict sh pairs s)
+-- so every place is below the length of the largest file
+pub segment-placed : {b : ℕ} → fileLimit ≤ b → (sh : Shape) → Shaped sh → (pairs s : List ℕ) → Placed b (segmentVerdict sh pairs s)
 unfolding segmentVerdict segmentRules recordVerdict
 segment-placed {b} l sh w pairs s =
     let h : Header = headerOf s in

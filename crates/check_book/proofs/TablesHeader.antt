@@ -1,6 +1,6 @@
 -- The tables of 14, 1 to 4, 51 to 55 and 6 and their rules: each accepts exactly when its rules are kept, and where they are broken it gives its refusal.
 -- Assumes nothing.
-use Prim.Native.Nat.{ℕ}
+use Prim.Native.Nat.{ℕ, _%_}
 use mathlib.Core.Path.{_≡_}
 use mathlib.Core.Bool.{true, false}
 use mathlib.Core.Logic.{_↔_, Iff·rfl, by-cases}
@@ -28,13 +28,13 @@ use Rattle.lists.proofs.Tests.{tests}
 use Rattle.answer.proofs.Order.{rows, then-accepted}
 use Rattle.segment.specs.declared.header.Header.{Header}
 use Rattle.segment.specs.declared.shape.Shape.{Shape}
-use Rattle.segment.specs.Format.{recordCount, bloomSize}
+use Rattle.segment.specs.Format.{recordCount, bloomOffset, bloomSize}
 use Rattle.segment.specs.Shapes.{Shaped}
 use Rattle.table.specs.Table.{goodTable, tableVerdict}
-use Rattle.segment.specs.Check.{sizeVerdict, headVerdict, bloomLaid, recordsLaid, digestsLaid, extentsLaid, lengthLaid, layoutVerdict, checksumVerdict}
+use Rattle.segment.specs.Check.{sizeVerdict, headVerdict, bloomPlace, bloomLaid, recordsLaid, digestsLaid, extentsLaid, lengthLaid, layoutVerdict, checksumVerdict}
 use Rattle.segment.proofs.Shapes.{shaped-divides}
 use Rattle.segment.specs.Meets.{SizeMeets, HeaderMeets, LayoutMeets, ChecksumMeets}
-use Rattle.check_book.specs.Layout.{BloomLies, RecordsLie, DigestsLie, ExtentsLie, LengthFits}
+use Rattle.check_book.specs.Layout.{BloomLaid, RecordsLaid, DigestsLaid, ExtentsLaid, LengthLaid}
 use Rattle.check_book.proofs.OneRefusal.{Only, only-rows, broken}
 
 -- ---- 14
@@ -84,18 +84,24 @@ module _ (sh : Shape) (h : Header) where
 -- ---- 51 to 55
 
 module _ (h : Header) where
-  pub bloom-laid-book : bloomLaid h ≡ Accepted ↔ BloomLies h
-  unfolding bloomLaid
-  bloom-laid-book =
+  -- `bloomPlace` says both cases of the offset
+  pub bloom-laid-starts : BloomLaid h ↔ (bloomOffset h ≡ bloomPlace (bloomSize h)) × (bloomSize h % 8 ≡ 0)
+  bloom-laid-starts =
       by-cases (ℕ-discrete (bloomSize h) 0)
-      (λ (z : bloomSize h ≡ 0). rw (eq-eqb (bloomSize h) 0 z) (simp rows (λ a. omega arith, λ (m : BloomLies h). omega (arith, m .none z))))
-      (λ (z : ¬ (bloomSize h ≡ 0)). rw (ne-eqb (bloomSize h) 0 z) (simp rows (λ a. omega arith, λ (m : BloomLies h). omega (arith, m .some z))))
+      (λ (z : bloomSize h ≡ 0).
+      rw (eq-eqb (bloomSize h) 0 z) (λ m. (m .none z, m .divides), λ (a : (bloomOffset h ≡ 0) × (bloomSize h % 8 ≡ 0)). record { none = λ e. a .0; some = λ n. absurd (n z); divides = a .1 }))
+      (λ (z : ¬ (bloomSize h ≡ 0)).
+      rw (ne-eqb (bloomSize h) 0 z) (λ m. (m .some z, m .divides), λ (a : (bloomOffset h ≡ 112) × (bloomSize h % 8 ≡ 0)). record { none = λ e. absurd (z e); some = λ n. a .0; divides = a .1 }))
+
+  pub bloom-laid-book : bloomLaid h ≡ Accepted ↔ BloomLaid h
+  unfolding bloomLaid
+  bloom-laid-book = simp rows (bloom-laid-starts .1, bloom-laid-starts .0)
 
   bloom-laid-only : Only (refusal LayoutBloom 48) (bloomLaid h)
   unfolding bloomLaid
   bloom-laid-only = search only-rows
 
-  pub records-laid-book : recordsLaid h ≡ Accepted ↔ RecordsLie h
+  pub records-laid-book : recordsLaid h ≡ Accepted ↔ RecordsLaid h
   unfolding recordsLaid
   records-laid-book = simp rows (omega arith)
 
@@ -103,7 +109,7 @@ module _ (h : Header) where
   unfolding recordsLaid
   records-laid-only = search only-rows
 
-  pub digests-laid-book : (sh : Shape) → digestsLaid sh h ≡ Accepted ↔ DigestsLie sh h
+  pub digests-laid-book : (sh : Shape) → digestsLaid sh h ≡ Accepted ↔ DigestsLaid sh h
   unfolding digestsLaid
   digests-laid-book sh = simp rows (omega arith)
 
@@ -111,7 +117,7 @@ module _ (h : Header) where
   unfolding digestsLaid
   digests-laid-only sh = search only-rows
 
-  pub extents-laid-book : extentsLaid h ≡ Accepted ↔ ExtentsLie h
+  pub extents-laid-book : extentsLaid h ≡ Accepted ↔ ExtentsLaid h
   unfolding extentsLaid
   extents-laid-book = simp rows Iff·rfl
 
@@ -119,49 +125,54 @@ module _ (h : Header) where
   unfolding extentsLaid
   extents-laid-only = search only-rows
 
-  pub length-laid-book : (s : List ℕ) → lengthLaid h (length s) ≡ Accepted ↔ LengthFits s h
+  pub length-laid-book : (n : ℕ) → lengthLaid h n ≡ Accepted ↔ LengthLaid n h
   unfolding lengthLaid
-  length-laid-book s = simp rows Iff·rfl
+  length-laid-book n = simp rows Iff·rfl
 
-  length-laid-only : (s : List ℕ) → Only (refusal LayoutLength 88) (lengthLaid h (length s))
+  length-laid-only : (n : ℕ) → Only (refusal LayoutLength 88) (lengthLaid h n)
   unfolding lengthLaid
-  length-laid-only s = search only-rows
+  length-laid-only n = search only-rows
 
 -- each is given where the rules before it are kept
-module _ (sh : Shape) (s : List ℕ) (h : Header) where
-  pub bloom-laid-broken : ¬ BloomLies h → layoutVerdict sh h (length s) ≡ Refused (refusal LayoutBloom 48)
+module _ (sh : Shape) (n : ℕ) (h : Header) where
+  pub bloom-laid-broken : ¬ BloomLaid h → layoutVerdict sh h n ≡ Refused (refusal LayoutBloom 48)
   unfolding layoutVerdict
-  bloom-laid-broken n = rw (broken (bloom-laid-only h) (bloom-laid-book h) n)
+  bloom-laid-broken c = rw (broken (bloom-laid-only h) (bloom-laid-book h) c)
 
-  module _ (b : BloomLies h) where
-    pub records-laid-broken : ¬ RecordsLie h → layoutVerdict sh h (length s) ≡ Refused (refusal LayoutRecords 32)
+  module _ (b : BloomLaid h) where
+    pub records-laid-broken : ¬ RecordsLaid h → layoutVerdict sh h n ≡ Refused (refusal LayoutRecords 32)
     unfolding layoutVerdict
-    records-laid-broken n = rw (bloom-laid-book h .1 b, broken (records-laid-only h) (records-laid-book h) n)
+    records-laid-broken c = rw (bloom-laid-book h .1 b, broken (records-laid-only h) (records-laid-book h) c)
 
-    module _ (r : RecordsLie h) where
-      pub digests-laid-broken : ¬ DigestsLie sh h → layoutVerdict sh h (length s) ≡ Refused (refusal LayoutDigests 64)
+    module _ (r : RecordsLaid h) where
+      pub digests-laid-broken : ¬ DigestsLaid sh h → layoutVerdict sh h n ≡ Refused (refusal LayoutDigests 64)
       unfolding layoutVerdict
-      digests-laid-broken n = rw (bloom-laid-book h .1 b, records-laid-book h .1 r, broken (digests-laid-only h sh) (digests-laid-book h sh) n)
+      digests-laid-broken c = rw (bloom-laid-book h .1 b, records-laid-book h .1 r, broken (digests-laid-only h sh) (digests-laid-book h sh) c)
 
-      module _ (d : DigestsLie sh h) where
-        pub extents-laid-broken : ¬ ExtentsLie h → layoutVerdict sh h (length s) ≡ Refused (refusal LayoutExtents 80)
+      module _ (d : DigestsLaid sh h) where
+        pub extents-laid-broken : ¬ ExtentsLaid h → layoutVerdict sh h n ≡ Refused (refusal LayoutExtents 80)
         unfolding layoutVerdict
-        extents-laid-broken n =
-            rw (bloom-laid-book h .1 b, records-laid-book h .1 r, digests-laid-book h sh .1 d, broken (extents-laid-only h) (extents-laid-book h) n)
+        extents-laid-broken c =
+            rw (bloom-laid-book h .1 b, records-laid-book h .1 r, digests-laid-book h sh .1 d, broken (extents-laid-only h) (extents-laid-book h) c)
 
-        pub length-laid-broken : ExtentsLie h → ¬ LengthFits s h → layoutVerdict sh h (length s) ≡ Refused (refusal LayoutLength 88)
+        pub length-laid-broken : ExtentsLaid h → ¬ LengthLaid n h → layoutVerdict sh h n ≡ Refused (refusal LayoutLength 88)
         unfolding layoutVerdict
-        length-laid-broken x n = rw (
+        length-laid-broken x c = rw (
           bloom-laid-book h .1 b,
           records-laid-book h .1 r,
           digests-laid-book h sh .1 d,
           extents-laid-book h .1 x,
-          broken (length-laid-only h s) (length-laid-book h s) n,
+          broken (length-laid-only h n) (length-laid-book h n) c,
         )
+
+        pub all-laid : ExtentsLaid h → LengthLaid n h → layoutVerdict sh h n ≡ Accepted
+        unfolding layoutVerdict
+        all-laid x l =
+            rw (bloom-laid-book h .1 b, records-laid-book h .1 r, digests-laid-book h sh .1 d, extents-laid-book h .1 x, length-laid-book h n .1 l)
 
 -- all five are the rule book's. The tables ask of the two sizes that 8 divides them, the rule book of every section's offset
 module _ (sh : Shape) (w : Shaped sh) (s : List ℕ) (h : Header) where
-  pub laid-meets : BloomLies h → RecordsLie h → DigestsLie sh h → ExtentsLie h → LengthFits s h → LayoutMeets sh s h
+  pub laid-meets : BloomLaid h → RecordsLaid h → DigestsLaid sh h → ExtentsLaid h → LengthLaid (length s) h → LayoutMeets sh s h
   laid-meets b r d x n =
       let whole = shaped-divides sh w (recordCount h) in
       record {
@@ -178,7 +189,7 @@ module _ (sh : Shape) (w : Shaped sh) (s : List ℕ) (h : Header) where
         extentsDivide = omega arith;
       }
 
-  meets-laid : LayoutMeets sh s h → BloomLies h × (RecordsLie h × (DigestsLie sh h × (ExtentsLie h × LengthFits s h)))
+  meets-laid : LayoutMeets sh s h → BloomLaid h × (RecordsLaid h × (DigestsLaid sh h × (ExtentsLaid h × LengthLaid (length s) h)))
   meets-laid m = (
     record { none = m .noBloom; some = m .bloom; divides = omega (arith, m .records, m .recordsDivide) },
     (

@@ -1,5 +1,5 @@
--- The rows of the header's tables: which verdict there is where a row's rule is broken, and where all are kept; by the rule book, and for the layout
--- by the rows above it. Each premise is as the code's test or call leaves it.
+-- The rows of the header's tables: which verdict there is where a row's rule is broken, and where all are kept; by the rule book. Each premise is as
+-- the code's test or call leaves it.
 -- Assumes nothing.
 use Prim.Native.Nat.{ℕ, _+_, _-_, _*_, _/_, _%_, _≤_, _<_}
 use mathlib.Core.Path.{_≡_, sym, _∙_}
@@ -24,13 +24,26 @@ use Rattle.answer.specs.declared.Rule.the-variants.{
 }
 use Rattle.answer.specs.Answers.{refusal}
 use Rattle.answer.specs.declared.Verdict.the-variants.{Accepted, Refused}
-use Rattle.lists.proofs.Tests.{tests, by-test, was-true, was-false}
+use Rattle.lists.proofs.Tests.{by-test, was-true, was-false}
 use Rattle.segment.specs.declared.header.Header.{Header}
 use Rattle.segment.specs.declared.shape.Shape.{Shape}
 use Rattle.segment.specs.Format.{recordCount, recordsOffset, bloomOffset, bloomSize, digestsOffset, digestsSize, extentsOffset, extentCount, footerOf}
-use Rattle.segment.specs.Check.{headVerdict, bloomPlace, bloomLaid, recordsLaid, digestsLaid, extentsLaid, lengthLaid, layoutVerdict, checksumVerdict}
+use Rattle.segment.specs.Check.{headVerdict, bloomPlace, layoutVerdict, checksumVerdict}
 use Rattle.segment.specs.Meets.{HeaderMeets}
-use Rattle.check_book.proofs.TablesHeader.{magic-broken, version-broken, header-book, header-broken}
+use Rattle.check_book.specs.Layout.{BloomLaid, RecordsLaid, DigestsLaid}
+use Rattle.check_book.proofs.TablesHeader.{
+  magic-broken,
+  version-broken,
+  header-book,
+  header-broken,
+  bloom-laid-starts,
+  bloom-laid-broken,
+  records-laid-broken,
+  digests-laid-broken,
+  extents-laid-broken,
+  length-laid-broken,
+  all-laid,
+}
 
 -- ---- 2, 3 and 4
 
@@ -95,51 +108,53 @@ module _ (n extents count : ℕ) where
   pub counted : 24 ≤ n → extents ≤ n - 24 → (n - 24 - extents) % 16 ≡ 0 → eqb ((n - 24 - extents) / 16) count ≡ eqb n (extents + 16 * count + 24)
   counted l m h = same-test ((n - 24 - extents) / 16) count n (extents + 16 * count + 24) (λ e. omega arith) (λ e. omega arith)
 
--- ---- 51 to 55
+-- ---- 51 to 55: each premise gives or breaks a rule of the book
 
-module _ (sh : Shape) (h : Header) (n : ℕ) (place : ℕ) (p : place ≡ bloomPlace (bloomSize h)) where
-  pub layout-bloom : (bloomOffset h ≡ place → ⊥) → Refused (refusal LayoutBloom 48) ≡ layoutVerdict sh h n
-  unfolding layoutVerdict bloomLaid recordsLaid digestsLaid extentsLaid lengthLaid
-  layout-bloom b = rw (← p) (simp tests)
+module _ (sh : Shape) (h : Header) (n : ℕ) (start : ℕ) (p : start ≡ bloomPlace (bloomSize h)) where
+  pub layout-bloom : (bloomOffset h ≡ start → ⊥) → Refused (refusal LayoutBloom 48) ≡ layoutVerdict sh h n
+  layout-bloom c = sym (bloom-laid-broken sh n h (λ m. c (bloom-laid-starts h .0 m .0 ∙ sym p)))
 
-  module _ (b : bloomOffset h ≡ place) where
+  module _ (b : bloomOffset h ≡ start) where
     pub layout-bloom-size : (bloomSize h % 8 ≡ 0 → ⊥) → Refused (refusal LayoutBloom 48) ≡ layoutVerdict sh h n
-    unfolding layoutVerdict bloomLaid recordsLaid digestsLaid extentsLaid lengthLaid
-    layout-bloom-size z = rw (← p) (simp tests)
+    layout-bloom-size c = sym (bloom-laid-broken sh n h (λ m. c (m .divides)))
 
     module _ (z : bloomSize h % 8 ≡ 0) where
+      bloom : BloomLaid h
+      bloom = bloom-laid-starts h .1 (b ∙ p, z)
+
       pub layout-count : 65536 < recordCount h → Refused (refusal LayoutRecords 32) ≡ layoutVerdict sh h n
-      unfolding layoutVerdict bloomLaid recordsLaid digestsLaid extentsLaid lengthLaid
-      layout-count c = rw (← p) (simp tests)
+      layout-count c = sym (records-laid-broken sh n h bloom (λ m. omega (arith, m .few)))
 
       module _ (c : recordCount h ≤ 65536) (t₁ : Bool) (e₁ : t₁ ≡ eqb (recordsOffset h) (112 + bloomSize h)) where
         pub layout-records : not t₁ ≡ true → Refused (refusal LayoutRecords 32) ≡ layoutVerdict sh h n
-        unfolding layoutVerdict bloomLaid recordsLaid digestsLaid extentsLaid lengthLaid
-        layout-records f = rw (← p) (simp (tests, was-false e₁ f))
+        layout-records f = sym (records-laid-broken sh n h bloom (λ m. eqb-false _ _ (was-false e₁ f) (m .starts)))
 
         module _ (f₁ : not t₁ ≡ false) (t₂ : Bool) (e₂ : t₂ ≡ eqb (digestsOffset h) (recordsOffset h + sh .«record_size» * recordCount h)) where
+          records : RecordsLaid h
+          records = record { few = c; starts = eqb-true _ _ (was-true e₁ f₁) }
+
           pub layout-digests : not t₂ ≡ true → Refused (refusal LayoutDigests 64) ≡ layoutVerdict sh h n
-          unfolding layoutVerdict bloomLaid recordsLaid digestsLaid extentsLaid lengthLaid
-          layout-digests f = rw (← p) (simp (tests, was-true e₁ f₁, was-false e₂ f))
+          layout-digests f = sym (digests-laid-broken sh n h bloom records (λ m. eqb-false _ _ (was-false e₂ f) (m .starts)))
 
           module _ (f₂ : not t₂ ≡ false) where
             pub layout-digests-size : (digestsSize h % 8 ≡ 0 → ⊥) → Refused (refusal LayoutDigests 64) ≡ layoutVerdict sh h n
-            unfolding layoutVerdict bloomLaid recordsLaid digestsLaid extentsLaid lengthLaid
-            layout-digests-size d = rw (← p) (simp (tests, was-true e₁ f₁, was-true e₂ f₂))
+            layout-digests-size d = sym (digests-laid-broken sh n h bloom records (λ m. d (m .divides)))
 
             module _ (d : digestsSize h % 8 ≡ 0) (t₃ : Bool) (e₃ : t₃ ≡ eqb (extentsOffset h) (digestsOffset h + digestsSize h)) where
+              digests : DigestsLaid sh h
+              digests = record { starts = eqb-true _ _ (was-true e₂ f₂); divides = d }
+
               pub layout-extents : not t₃ ≡ true → Refused (refusal LayoutExtents 80) ≡ layoutVerdict sh h n
-              unfolding layoutVerdict bloomLaid recordsLaid digestsLaid extentsLaid lengthLaid
-              layout-extents f = rw (← p) (simp (tests, was-true e₁ f₁, was-true e₂ f₂, was-false e₃ f))
+              layout-extents f = sym (extents-laid-broken sh n h bloom records digests (eqb-false _ _ (was-false e₃ f)))
 
               module _ (f₃ : not t₃ ≡ false) (t₄ : Bool) (e₄ : t₄ ≡ eqb n (extentsOffset h + 16 * extentCount h + 24)) where
-                pub layout-file : not t₄ ≡ true → Refused (refusal LayoutLength 88) ≡ layoutVerdict sh h n
-                unfolding layoutVerdict bloomLaid recordsLaid digestsLaid extentsLaid lengthLaid
-                layout-file f = rw (← p) (simp (tests, was-true e₁ f₁, was-true e₂ f₂, was-true e₃ f₃, was-false e₄ f))
+                pub layout-length : not t₄ ≡ true → Refused (refusal LayoutLength 88) ≡ layoutVerdict sh h n
+                layout-length f =
+                    sym (length-laid-broken sh n h bloom records digests (eqb-true _ _ (was-true e₃ f₃)) (eqb-false _ _ (was-false e₄ f)))
 
                 pub layout-accepted : not t₄ ≡ false → Accepted ≡ layoutVerdict sh h n
-                unfolding layoutVerdict bloomLaid recordsLaid digestsLaid extentsLaid lengthLaid
-                layout-accepted f = rw (← p) (simp (tests, was-true e₁ f₁, was-true e₂ f₂, was-true e₃ f₃, was-true e₄ f))
+                layout-accepted f =
+                    sym (all-laid sh n h bloom records digests (eqb-true _ _ (was-true e₃ f₃)) (eqb-true _ _ (was-true e₄ f)))
 
 pub ruleset layout-rows = (
   layout-bloom,
@@ -149,7 +164,7 @@ pub ruleset layout-rows = (
   layout-digests,
   layout-digests-size,
   layout-extents,
-  layout-file,
+  layout-length,
   layout-accepted,
 )
 

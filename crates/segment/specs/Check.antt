@@ -214,7 +214,7 @@ segmentRules sh pairs s h =
     then visibilityVerdict sh s h
     then firstOver (recordCount h) (freshKey (keyNo sh s h) (recordAt sh h))
 
--- 1 to 12
+-- every rule but 14
 unfoldable pub segmentVerdict : Shape → List ℕ → List ℕ → Verdict
 segmentVerdict sh pairs s = sizeVerdict (length s) then segmentRules sh pairs s (headerOf s)
 

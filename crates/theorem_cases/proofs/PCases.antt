@@ -25,7 +25,7 @@ use Rattle.table.specs.Table.{goodTable, allows}
 use Rattle.segment.specs.Keys.{Key, allowsKey}
 use Rattle.lists.specs.Lists.{lexLeq, insert, sortBy, Each}
 use Rattle.segment.specs.Check.{sizeVerdict, headVerdict, layoutVerdict, bloomLaid, recordsLaid, digestsLaid, extentsLaid, lengthLaid, sumLengths, visibilityNo, digestIn, recordKey, keyNo, checkOf}
-use Rattle.check_book.specs.Layout.{BloomLies}
+use Rattle.check_book.specs.Layout.{BloomLaid}
 use Rattle.segment.specs.Meets.{LayoutMeets, SumMeets, TotalMeets, RecordMeets, VisibilityMeets, KeysDiffer, Meets}
 use Rattle.segment.specs.Meaning.{Row, rowKey, sourceOf}
 use Rattle.segment.specs.Tidy.{
@@ -89,7 +89,7 @@ use Rattle.theorem_cases.proofs.Sealed.{allBytes, all-bytes, footed, up
 refuses : (pairs s : List ℕ) {r : Refusal} → Given pairs s r → checkOf pairs s ≡ refused r
 refuses pairs s {r} g = refused-numbers pairs s r .1 g
 
--- 1 to 10 are kept, and 11 and 12
+-- every rule up to 10 is kept, and 11 and 12
 accepts : (pairs s : List ℕ) → UpToRecords pairs s → VisibilityMeets v3 s (headerOf s) → KeysDiffer v3 s (headerOf s) → checkOf pairs s ≡ accepted
 accepts pairs s u v d =
     let header = u .before .before .before in
@@ -200,7 +200,7 @@ short = record { none = λ pairs s g e. too-short pairs s g (omega arith); one-l
 
 pub great-bloom : GreatBloom
 great-bloom = λ pairs s u at size records.
-    let bloom : BloomLies (headerOf s) = record { none = λ z. absurd (omega arith); some = λ z. at; divides = omega arith } in
+    let bloom : BloomLaid (headerOf s) = record { none = λ z. absurd (omega arith); some = λ z. at; divides = omega arith } in
     refuses pairs s (by-layout-records u bloom (λ m. omega (arith, m .starts)))
 
 -- ---- one record of any file

@@ -1,7 +1,7 @@
 -- Files that carry their right checksum: a body of bytes with its footer behind it, and the rules up to the checksum as the tables have them.
 --   allBytes, all-bytes   the test that a list is bytes
 --   footed                a body with its footer meets 6
---   up-to-header, up-to-checksum   the tables of 1 to 4, or 5, accept, and 6 is met
+--   up-to-header, up-to-checksum   the tables of 1 to 4, or besides of 51 to 55, accept, and 6 is met
 -- Assumes nothing.
 use Prim.Native.Nat.{ℕ, zero, suc, _+_, _-_}
 use mathlib.Core.Path.{_≡_, sym, ap, _∙_}

@@ -151,7 +151,7 @@ pub record CaseL : Type 0 where
   pub accepts : (pairs : List ℕ) (t : Heading) → goodTable pairs ≡ true → allows pairs 7 4 ≡ true
       → checkOf pairs (tidyOfRows t caseL) ≡ accepted
 
--- bloom offset 112, bloom size 2^64 − 112, records offset 0: refusal 52, at the byte of record count and records offset, whatever the other numbers are
+-- bloom offset 112, bloom size 2^64 − 112, records offset 0: refusal 52, at the byte of record count and records offset, whatever the other section numbers are
 abbrev pub GreatBloom : Type 0
 GreatBloom =
     (pairs s : List ℕ) → UpToHeader pairs s → bloomOffset (headerOf s) ≡ 112 → bloomSize (headerOf s) ≡ 18446744073709551504

@@ -35,7 +35,7 @@ use Rattle.theorem_demands.proofs.Rulebook.{answer-is, accepts-iff}
 use Rattle.theorem_demands.proofs.InNumbers.{in-numbers}
 use Rattle.theorem_demands.proofs.Refusals.{refused-iff}
 
--- a segment that check accepts: the table is good, and 1 to 12 hold
+-- a segment that check accepts: the table is good, and every other rule holds
 accepted-parts : (pairs s : List ℕ) → checkOf pairs s ≡ accepted → (tableVerdict pairs ≡ Accepted) × (segmentVerdict v3 pairs s ≡ Accepted)
 unfolding checked
 accepted-parts pairs s e = then-accepted (tableVerdict pairs) (segmentVerdict v3 pairs s) .0 (answer-is pairs s Accepted .0 e)

@@ -6,6 +6,7 @@ use mathlib.Core.Path.{_≡_, refl, _∙_}
 use mathlib.Core.Bool.{Bool, true, false}
 use mathlib.Core.Logic.{_↔_, by-cases}
 use mathlib.Core.List.{List}
+use lib.ListN.{length}
 use native.Mathlib.Decide.{ℕ-discrete}
 use Rattle.answer.specs.declared.Refusal.{Refusal}
 use Rattle.answer.specs.declared.Verdict.{Verdict}
@@ -20,7 +21,7 @@ use Rattle.table.specs.Table.{goodTable}
 use Rattle.segment.specs.Keys.{freshKey}
 use Rattle.segment.specs.Check.{recordVerdict, keyNo, checked, checkOf}
 use Rattle.segment.specs.Meets.{MarksMeet, DigestMeets, RecordMeets}
-use Rattle.check_book.specs.Layout.{BloomLies, RecordsLie, DigestsLie, ExtentsLie}
+use Rattle.check_book.specs.Layout.{BloomLaid, RecordsLaid, DigestsLaid, ExtentsLaid}
 use Rattle.key.proofs.Duplicates.{refused-twice}
 use Rattle.theorem_demands.specs.Refusals.{
   MagicMeets,
@@ -126,21 +127,21 @@ module _ (pairs s : List ℕ) where
 
   -- a segment whose header is kept
   module _ (u : UpToHeader pairs s) where
-    from-length : BloomLies (headerOf s) → RecordsLie (headerOf s) → DigestsLie v3 (headerOf s) → ExtentsLie (headerOf s) → Judged pairs s
+    from-length : BloomLaid (headerOf s) → RecordsLaid (headerOf s) → DigestsLaid v3 (headerOf s) → ExtentsLaid (headerOf s) → Judged pairs s
     from-length bloom records digests extents =
-        by-cases (decided (length-laid-book (headerOf s) s))
+        by-cases (decided (length-laid-book (headerOf s) (length s)))
         (λ m. from-checksum (record { before = u; layout = laid-meets v3 v3-shaped s (headerOf s) bloom records digests extents m }))
         (λ n. gives _ (by-layout-length u bloom records digests extents n))
 
-    from-extents-offset : BloomLies (headerOf s) → RecordsLie (headerOf s) → DigestsLie v3 (headerOf s) → Judged pairs s
+    from-extents-offset : BloomLaid (headerOf s) → RecordsLaid (headerOf s) → DigestsLaid v3 (headerOf s) → Judged pairs s
     from-extents-offset bloom records digests =
         by-cases (decided (extents-laid-book (headerOf s))) (from-length bloom records digests) (λ n. gives _ (by-layout-extents u bloom records digests n))
 
-    from-digests-offset : BloomLies (headerOf s) → RecordsLie (headerOf s) → Judged pairs s
+    from-digests-offset : BloomLaid (headerOf s) → RecordsLaid (headerOf s) → Judged pairs s
     from-digests-offset bloom records =
         by-cases (decided (digests-laid-book (headerOf s) v3)) (from-extents-offset bloom records) (λ n. gives _ (by-layout-digests u bloom records n))
 
-    from-records-offset : BloomLies (headerOf s) → Judged pairs s
+    from-records-offset : BloomLaid (headerOf s) → Judged pairs s
     from-records-offset bloom =
         by-cases (decided (records-laid-book (headerOf s))) (from-digests-offset bloom) (λ n. gives _ (by-layout-records u bloom n))
 

@@ -7,6 +7,7 @@ use Prim.Native.Nat.{ℕ, _<_}
 use mathlib.Core.Path.{_≡_}
 use mathlib.Core.Bool.{true, false}
 use mathlib.Core.List.{List}
+use lib.ListN.{length}
 use Rattle.answer.specs.declared.Refusal.{Refusal}
 use Rattle.answer.specs.declared.Rule.the-variants.{
   Size,
@@ -45,7 +46,7 @@ use Rattle.segment.specs.Meets.{
   RecordMeets,
   VisibilityMeets,
 }
-use Rattle.check_book.specs.Layout.{BloomLies, RecordsLie, DigestsLie, ExtentsLie, LengthFits}
+use Rattle.check_book.specs.Layout.{BloomLaid, RecordsLaid, DigestsLaid, ExtentsLaid, LengthLaid}
 
 -- ---- the rules that the rule book has no name for: 2 and 3
 
@@ -112,16 +113,16 @@ pub data Given (pairs s : List ℕ) : Refusal → Type 0 where
   by-version : UpToSize pairs s → MagicMeets s → ¬ VersionMeets s → Given pairs s (refusal Version 0)
   by-header : UpToSize pairs s → MagicMeets s → VersionMeets s → ¬ HeaderMeets (headerOf s) → Given pairs s (refusal HeaderWrong 0)
   -- a layout rule, at the byte of the header at which its fields begin
-  by-layout-bloom : UpToHeader pairs s → ¬ BloomLies (headerOf s) → Given pairs s (refusal LayoutBloom 48)
-  by-layout-records : UpToHeader pairs s → BloomLies (headerOf s) → ¬ RecordsLie (headerOf s) → Given pairs s (refusal LayoutRecords 32)
-  by-layout-digests : UpToHeader pairs s → BloomLies (headerOf s) → RecordsLie (headerOf s) → ¬ DigestsLie v3 (headerOf s)
+  by-layout-bloom : UpToHeader pairs s → ¬ BloomLaid (headerOf s) → Given pairs s (refusal LayoutBloom 48)
+  by-layout-records : UpToHeader pairs s → BloomLaid (headerOf s) → ¬ RecordsLaid (headerOf s) → Given pairs s (refusal LayoutRecords 32)
+  by-layout-digests : UpToHeader pairs s → BloomLaid (headerOf s) → RecordsLaid (headerOf s) → ¬ DigestsLaid v3 (headerOf s)
       → Given pairs s (refusal LayoutDigests 64)
-  by-layout-extents : UpToHeader pairs s → BloomLies (headerOf s) → RecordsLie (headerOf s) → DigestsLie v3 (headerOf s)
-      → ¬ ExtentsLie (headerOf s)
+  by-layout-extents : UpToHeader pairs s → BloomLaid (headerOf s) → RecordsLaid (headerOf s) → DigestsLaid v3 (headerOf s)
+      → ¬ ExtentsLaid (headerOf s)
       → Given pairs s (refusal LayoutExtents 80)
-  by-layout-length : UpToHeader pairs s → BloomLies (headerOf s) → RecordsLie (headerOf s) → DigestsLie v3 (headerOf s)
-      → ExtentsLie (headerOf s)
-      → ¬ LengthFits s (headerOf s)
+  by-layout-length : UpToHeader pairs s → BloomLaid (headerOf s) → RecordsLaid (headerOf s) → DigestsLaid v3 (headerOf s)
+      → ExtentsLaid (headerOf s)
+      → ¬ LengthLaid (length s) (headerOf s)
       → Given pairs s (refusal LayoutLength 88)
   by-checksum : UpToLayout pairs s → ¬ ChecksumMeets s → Given pairs s (refusal Checksum 0)
   by-marks : (k : ℕ) → Reached pairs s k → ¬ MarksMeet (headerOf s) (recordIn s k) → Given pairs s (refusal RecordWrong (placeIn s k))

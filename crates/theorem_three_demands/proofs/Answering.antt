@@ -90,7 +90,7 @@ use Rattle.theorem_demands.specs.Writing.{
   by-entry,
   by-key as by-twice,
 }
-use Rattle.theorem_three_demands.specs.Answering.{Numbered, Places, ofRecord, inSegment, inRequest, PlacedBy, Leaves, Stays}
+use Rattle.theorem_three_demands.specs.Answering.{Numbered, PlaceRule, ofRecord, inSegment, inRequest, PlacedBy, Leaves, Stays}
 use Rattle.theorem_demands.proofs.Refusals.{refused-iff}
 use Rattle.theorem_demands.proofs.LookUps.{look-refused-iff}
 use Rattle.theorem_demands.proofs.Tidying.{tidy-refused-iff, length-refused}
@@ -101,7 +101,7 @@ use Rattle.theorem_demands.proofs.Writing.{write-refused-iff}
 rule-numbered : (q : Rule) (p : ℕ) → Numbered (refused (refusal q p))
 rule-numbered q p = or-right (eqb (ruleNumber q) 0) (in-table q)
 
-module _ {P : Places} (q : Rule) where
+module _ {P : PlaceRule} (q : Rule) where
   -- at an item, and elsewhere
   at-item : {p : ℕ} → P .ofItem (ruleNumber q) ≡ true → P .Item p → PlacedBy P (refused (refusal q p))
   at-item {p} t i = record { numbered = rule-numbered q p; of-item = λ e. i; otherwise = λ e. absurd (true≢false (sym t ∙ e)) }
@@ -110,19 +110,19 @@ module _ {P : Places} (q : Rule) where
   no-item {p} f e = record { numbered = rule-numbered q p; of-item = λ t. absurd (true≢false (sym t ∙ f)); otherwise = λ g. e }
 
 -- where an answer is placed, and the refusals of any output
-pub record Plain (P : Places) : Type 0 where
+pub record Common (P : PlaceRule) : Type 0 where
   pub answers : (values : List ℕ) → PlacedBy P (answered values)
   pub large : PlacedBy P (refused (refusal Large 0))
   pub room : PlacedBy P (refused (refusal Room 0))
 
-answers-placed : {P : Places} → P .ofItem 0 ≡ false → 0 ≡ P .elsewhere 0 → (values : List ℕ) → PlacedBy P (answered values)
+answers-placed : {P : PlaceRule} → P .ofItem 0 ≡ false → 0 ≡ P .elsewhere 0 → (values : List ℕ) → PlacedBy P (answered values)
 answers-placed f e values = record { numbered = refl; of-item = λ t. absurd (true≢false (sym t ∙ f)); otherwise = λ g. e }
 
-pub segment-plain : (s : List ℕ) → Plain (inSegment s)
-segment-plain s = record { answers = answers-placed refl refl; large = no-item Large refl refl; room = no-item Room refl refl }
+pub segment-common : (s : List ℕ) → Common (inSegment s)
+segment-common s = record { answers = answers-placed refl refl; large = no-item Large refl refl; room = no-item Room refl refl }
 
-pub request-plain : (n : ℕ) → Plain (inRequest n)
-request-plain n = record { answers = answers-placed refl refl; large = no-item Large refl refl; room = no-item Room refl refl }
+pub request-common : (n : ℕ) → Common (inRequest n)
+request-common n = record { answers = answers-placed refl refl; large = no-item Large refl refl; room = no-item Room refl refl }
 
 -- ---- the place of a refusal that is given
 
@@ -154,7 +154,7 @@ module _ (pairs s : List ℕ) where
   look-placed key r (by-key g a) = no-item KeyWrong refl refl
   look-placed key r (by-segment g a n) = given-placed r n
 
-size-placed : {P : Places} {m room : ℕ} → Plain P → (r : Refusal) → SizeGiven m room r → PlacedBy P (refused r)
+size-placed : {P : PlaceRule} {m room : ℕ} → Common P → (r : Refusal) → SizeGiven m room r → PlacedBy P (refused r)
 size-placed o r (by-limit l) = o .large
 size-placed o r (by-room l h) = o .room
 
@@ -174,7 +174,7 @@ request-placed pairs q r (by-twice k u t) = at-item Duplicate refl (t .within)
 
 -- ---- what is answered
 
-module _ {P : Places} (o : Plain P) where
+module _ {P : PlaceRule} (o : Common P) where
   verdict-placed : (v : Verdict) → ((r : Refusal) → v ≡ Refused r → PlacedBy P (refused r)) → PlacedBy P (checkAnswer v)
   verdict-placed Accepted b = o .answers []
   verdict-placed (Refused r) b = b r refl
@@ -194,7 +194,7 @@ module _ {P : Places} (o : Plain P) where
   written-placed (Done m) b = o .answers _
   written-placed (NotWritten r) b = b r refl
 
-written-leaves : {P : Places} (w : Written) (result out : List ℕ) → PlacedBy P (writtenAnswer w) → Leaves P (outcome w (outputAfter w result out)) out
+written-leaves : {P : PlaceRule} (w : Written) (result out : List ℕ) → PlacedBy P (writtenAnswer w) → Leaves P (outcome w (outputAfter w result out)) out
 written-leaves (Done m) result out p = record { placed = p; kept = λ f. absurd (f refl) }
 written-leaves (NotWritten r) result out p = record { placed = p; kept = λ f. refl }
 
@@ -203,34 +203,34 @@ written-leaves (NotWritten r) result out p = record { placed = p; kept = λ f. r
 module _ (pairs s : List ℕ) where
   pub check-placed : PlacedBy (inSegment s) (checkOf pairs s)
   unfolding checkOf
-  check-placed = verdict-placed (segment-plain s) (checked pairs s) (λ r e. given-placed pairs s r (refused-iff pairs s r .0 e))
+  check-placed = verdict-placed (segment-common s) (checked pairs s) (λ r e. given-placed pairs s r (refused-iff pairs s r .0 e))
 
   pub look-up-placed : (key : Key) → PlacedBy (inSegment s) (lookUpOf pairs s key)
   unfolding lookUpOf
-  look-up-placed key = found-placed (segment-plain s) (lookedUp pairs s key) (λ r e. look-placed pairs s key r (look-refused-iff pairs s key r .0 e))
+  look-up-placed key = found-placed (segment-common s) (lookedUp pairs s key) (λ r e. look-placed pairs s key r (look-refused-iff pairs s key r .0 e))
 
   pub stepped-stays : (at : ℕ) → Stays (inSegment s) (stepped pairs s at) at
   stepped-stays at =
-      step-stays (segment-plain s) (stepped pairs s at) at
+      step-stays (segment-common s) (stepped pairs s at) at
       (λ r e. given-placed pairs s r (refused-iff pairs s r .0 (step-refused-iff pairs s at r .0 e)))
 
   tidied-placed : (room : ℕ) (r : Refusal) → tidied pairs s room ≡ NotWritten r → PlacedBy (inSegment s) (refused r)
-  tidied-placed room r e = ⊎-elim (given-placed pairs s r) (λ z. size-placed (segment-plain s) r (z .1)) (tidy-refused-iff pairs s room r .0 e)
+  tidied-placed room r e = ⊎-elim (given-placed pairs s r) (λ z. size-placed (segment-common s) r (z .1)) (tidy-refused-iff pairs s room r .0 e)
 
   pub tidy-length-placed : PlacedBy (inSegment s) (tidyLengthOf pairs s)
   unfolding tidyLengthOf
-  tidy-length-placed = written-placed (segment-plain s) (tidySized pairs s) (λ r e. tidied-placed 0 r (length-refused pairs s 0 r e))
+  tidy-length-placed = written-placed (segment-common s) (tidySized pairs s) (λ r e. tidied-placed 0 r (length-refused pairs s 0 r e))
 
   pub tidy-leaves : (out : List ℕ) → Leaves (inSegment s) (tidyOf pairs s out) out
   unfolding tidyOf
   tidy-leaves out =
       written-leaves (tidied pairs s (length out)) (tidyForm v3 (meaningOf v3 s)) out
-      (written-placed (segment-plain s) (tidied pairs s (length out)) (tidied-placed (length out)))
+      (written-placed (segment-common s) (tidied pairs s (length out)) (tidied-placed (length out)))
 
 pub write-leaves : (pairs : List ℕ) (q : Request) (out : List ℕ) → Leaves (inRequest (entryCount (q .entries))) (writeOf pairs q out) out
 unfolding writeOf
 write-leaves pairs q out =
-    let o = request-plain (entryCount (q .entries)) in
+    let o = request-common (entryCount (q .entries)) in
     written-leaves (wrote pairs q (length out)) (tidyForm v3 (requested q)) out
     (written-placed o (wrote pairs q (length out))
     (λ r e. ⊎-elim (request-placed pairs q r) (λ z. size-placed o r (z .1)) (write-refused-iff pairs q (length out) r .0 e)))

@@ -6,7 +6,7 @@ use mathlib.Core.List.{List, []}
 use Rattle.answer.specs.declared.Found.{Found}
 use Rattle.answer.specs.declared.Found.the-variants.{Absent, Gone, Present, Refused as NotFound}
 use Rattle.answer.specs.Answers.{foundAnswer}
-use Rattle.answer.proofs.Settled.{in-table, no-5}
+use Rattle.answer.proofs.Settled.{in-table, no-5, refusalOf, table-full}
 use Rattle.table_pairs.specs.declared.Length.{Length}
 use Rattle.table_pairs.specs.declared.Length.the-variants.{Known, Unknown}
 use Rattle.table_pairs.specs.Pairs.{lengthIn, lengthAnswer, lengthOf}
@@ -28,7 +28,7 @@ use Rattle.theorem_demands.proofs.Writing.{written-iff, write-keeps, write-back
 use Rattle.theorem_tidiness.proofs.Tidiness.{tidy-iff, kept-is-tidy, tidy-comes-back}
 use Rattle.theorem_three_demands.specs.Answering.{IsRefused}
 use Rattle.theorem_three_demands.specs.Demands.{DemandOne, DemandTwo, CanTidy, DemandThree}
-use Rattle.theorem_three_demands.proofs.Answering.{segment-plain, request-plain, check-placed, look-up-placed, stepped-stays, tidy-length-placed, tidy-leaves, write-leaves}
+use Rattle.theorem_three_demands.proofs.Answering.{segment-common, request-common, check-placed, look-up-placed, stepped-stays, tidy-length-placed, tidy-leaves, write-leaves}
 use Rattle.theorem_three_demands.proofs.Entering.{bits-placed, reply-leaves, step-leaves, sealed-leaves}
 
 length-answered : (l : Length) → lengthAnswer l .number ≡ 0
@@ -54,16 +54,17 @@ demand-one pairs table s key at q out = record {
   write = write-leaves pairs q out;
   lengthIn = λ listed hash. length-answered (lengthIn listed hash);
   number = λ r. in-table (r .0);
+  numbers = λ n e. (refusalOf n 0, table-full n e);
   gap = no-5;
-  rawCheck = bits-placed (segment-plain s) (checkOf (tableIn table) s) 0 (check-placed (tableIn table) s);
+  rawCheck = bits-placed (segment-common s) (checkOf (tableIn table) s) 0 (check-placed (tableIn table) s);
   rawLookUp =
       let p = look-up-placed (tableIn table) s key in
-      reply-leaves (segment-plain s) (replyOf (lookedUp (tableIn table) s key)) out
+      reply-leaves (segment-common s) (replyOf (lookedUp (tableIn table) s key)) out
       (record { numbered = p .numbered; of-item = p .of-item; otherwise = p .otherwise });
-  rawStep = step-leaves (segment-plain s) (stepped (tableIn table) s at) out (stepped-stays (tableIn table) s at .placed);
-  rawTidyLength = bits-placed (segment-plain s) (tidyLengthOf (tableIn table) s) _ (tidy-length-placed (tableIn table) s);
-  rawTidy = sealed-leaves (segment-plain s) (tidyOf (tableIn table) s out) out (tidy-leaves (tableIn table) s out);
-  rawWrite = sealed-leaves (request-plain (entryCount (q .entries))) (writeOf (tableIn table) q out) out (write-leaves (tableIn table) q out);
+  rawStep = step-leaves (segment-common s) (stepped (tableIn table) s at) out (stepped-stays (tableIn table) s at .placed);
+  rawTidyLength = bits-placed (segment-common s) (tidyLengthOf (tableIn table) s) _ (tidy-length-placed (tableIn table) s);
+  rawTidy = sealed-leaves (segment-common s) (tidyOf (tableIn table) s out) out (tidy-leaves (tableIn table) s out);
+  rawWrite = sealed-leaves (request-common (entryCount (q .entries))) (writeOf (tableIn table) q out) out (write-leaves (tableIn table) q out);
 }
 
 pub demand-two : (pairs s : List ℕ) (key : Key) (q : Request) (out : List ℕ) → DemandTwo pairs s key q out

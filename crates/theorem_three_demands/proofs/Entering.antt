@@ -1,7 +1,7 @@
 -- Demand 1 at the C boundary: what an entry point returns has the number and the place of its service's answer, and what it is lent to write to is left where
 -- it refuses. Of any answer, reply, step and outcome.
 -- Assumes nothing.
-use Prim.Native.Nat.{ℕ, _*_, _≤_}
+use Prim.Native.Nat.{ℕ, _*_, _<_}
 use mathlib.Core.Path.{_≡_, refl, ap}
 use mathlib.Core.Bool.{false}
 use mathlib.Core.Logic.{⊎-elim}
@@ -20,17 +20,17 @@ use Rattle.segment.specs.Tidy.{Outcome}
 use Rattle.c_answer.specs.declared.Reply.{Reply}
 use Rattle.c_answer.specs.Boundary.{answerBits, bitsOf, left, givenTo, replyLeft, stepLeft, sealedAs}
 use Rattle.theorem_demands.specs.Answered.{refusedBy}
-use Rattle.theorem_three_demands.specs.Answering.{Numbered, Places, PlacedBy, Leaves, numberSaid, placeSaid, saidIn, LeavesAt}
-use Rattle.theorem_three_demands.proofs.Answering.{Plain}
+use Rattle.theorem_three_demands.specs.Answering.{Numbered, PlaceRule, PlacedBy, Leaves, numberSaid, placeSaid, saidIn, LeavesAt}
+use Rattle.theorem_three_demands.proofs.Answering.{Common}
 
 -- ---- one number
 
 -- an answer's number fits its byte
-number-fits : (a : Answer) → Numbered a → a .number ≤ 55
+number-fits : (a : Answer) → Numbered a → a .number < 256
 number-fits a n =
     ⊎-elim (λ e. let z = eqb-true (a .number) 0 e in omega arith) (λ e. table-small (a .number) e .1) (or-either (eqb (a .number) 0) (inTable (a .number)) n)
 
-module _ (number place : ℕ) (l : number ≤ 55) where
+module _ (number place : ℕ) (l : number < 256) where
   lowest : numberSaid (answerBits number 0 place) ≡ number
   unfolding answerBits
   lowest = omega arith
@@ -45,7 +45,7 @@ module _ (number place : ℕ) (l : number ≤ 55) where
 value-said : (value : ℕ) → saidIn (answerBits 0 0 value) ≡ answered []
 value-said value = rw (lowest 0 value (omega arith))
 
-module _ {P : Places} (o : Plain P) where
+module _ {P : PlaceRule} (o : Common P) where
   value-placed : (value : ℕ) → PlacedBy P (saidIn (answerBits 0 0 value))
   value-placed value = rw (value-said value) (o .answers [])
 

@@ -1,6 +1,6 @@
 -- docs/SERVICES.md, "The three demands", the first, of any answer: it is answered, or refused by a number of the table and its place; and what is refused leaves
 -- what it was lent to write to.
---   Places        which place each number has: in a segment, and in what write is lent
+--   PlaceRule        which place each number has: in a segment, and in what write is lent
 --   PlacedBy      a number of the table, and its place
 --   Leaves        and an output, which a refused call leaves
 --   Stays         and a walk, which a refused step leaves where it is
@@ -27,7 +27,7 @@ Numbered a = (eqb (a .number) 0 || inTable (a .number)) ≡ true
 -- ---- which place a number has
 
 -- at an item, for some numbers, and for every other one where it is said
-pub record Places : Type 1 where
+pub record PlaceRule : Type 1 where
   pub ofItem : ℕ → Bool
   pub Item : ℕ → Type 0
   pub elsewhere : ℕ → ℕ
@@ -49,16 +49,16 @@ pub record RecordBegins (s : List ℕ) (byte : ℕ) : Type 0 where
   pub here : byte ≡ recordAt v3 (headerOf s) number
 
 -- in a segment: the byte at which the record begins, the byte of the fields, or 0
-abbrev pub inSegment : List ℕ → Places
+abbrev pub inSegment : List ℕ → PlaceRule
 inSegment s = record { ofItem = ofRecord; Item = RecordBegins s; elsewhere = fieldsAt }
 
 -- in what write is lent, with so many entries: the entry's number for those and 15, otherwise 0
-abbrev pub inRequest : ℕ → Places
+abbrev pub inRequest : ℕ → PlaceRule
 inRequest n = record { ofItem = λ number. ofRecord number || eqb number 15; Item = λ place. place < n; elsewhere = λ number. 0 }
 
 -- ---- a call that is answered, or refused so
 
-pub record PlacedBy (P : Places) (a : Answer) : Type 0 where
+pub record PlacedBy (P : PlaceRule) (a : Answer) : Type 0 where
   pub numbered : Numbered a
   pub of-item : P .ofItem (a .number) ≡ true → P .Item (a .place)
   pub otherwise : P .ofItem (a .number) ≡ false → a .place ≡ P .elsewhere (a .number)
@@ -67,12 +67,12 @@ abbrev pub IsRefused : Answer → Type 0
 IsRefused a = ¬ (a .number ≡ 0)
 
 -- and with an output: one that is refused leaves it
-pub record Leaves (P : Places) (o : Outcome) (out : List ℕ) : Type 0 where
+pub record Leaves (P : PlaceRule) (o : Outcome) (out : List ℕ) : Type 0 where
   pub placed : PlacedBy P (o .answer)
   pub kept : IsRefused (o .answer) → o .output ≡ out
 
 -- a step of the walk at a place: one that is refused stays there
-pub record Stays (P : Places) (t : Step) (at : ℕ) : Type 0 where
+pub record Stays (P : PlaceRule) (t : Step) (at : ℕ) : Type 0 where
   pub placed : PlacedBy P (stepAnswer t)
   pub kept : IsRefused (stepAnswer t) → nextPlace t at ≡ at
 
@@ -90,5 +90,5 @@ abbrev pub saidIn : ℕ → Answer
 saidIn bits = cond (eqb (numberSaid bits) 0) (answered []) (refusedBy (numberSaid bits) (placeSaid bits))
 
 -- what a call returns, and every byte of the slice after it: one that is refused leaves the slice
-abbrev pub LeavesAt : Places → Left → List ℕ → Type 0
+abbrev pub LeavesAt : PlaceRule → Left → List ℕ → Type 0
 LeavesAt P l out = Leaves P (record { answer = saidIn (l .bits); output = l .output }) out

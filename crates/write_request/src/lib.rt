@@ -1,5 +1,5 @@
-// The check of what write is lent, between the table and the size: 16 for the entry count, 5 for the bloom bytes, the entries
-// by number, and 12.
+// The check of what write is lent, between the table and the size: 16 for the entry count, 51 for the bloom bytes, the
+// entries by number, and 12.
 ghost use mathlib.Core.Path.{_≡_};
 ghost use Rattle.answer.specs.Rules.{firstOver};
 ghost use Rattle.segment.specs.Write.{entryCount, entryRules, entryVerdict, requestRules};
