@@ -1,4 +1,5 @@
--- The layout rules of Meets, gathered by the refusal that is given where one of them is broken: 51 to 55. Of a shape all five say the same as LayoutMeets.
+-- The layout rules of Meets, gathered by the refusal that is given where one of them is broken: 51 to 55. Each has the name of its table in Check, with a
+-- capital. Where `Shaped` holds of the shape, the five together say what LayoutMeets says.
 -- Assumes nothing: these are definitions.
 use Prim.Native.Nat.{ℕ, _+_, _*_, _%_, _≤_}
 use mathlib.Core.Path.{_≡_}

@@ -79,32 +79,33 @@ abbrev pub bloomPlace : ℕ → ℕ
 bloomPlace size = cond (eqb size 0) 0 headerSize
 
 -- The layout rules of a header. The place of each is the byte of the header at which its fields begin.
--- 51: bloom offset and bloom size
+-- 51: bloom offset is what bloom size says, and bloom size a multiple of 8
 unfoldable pub bloomLaid : Header → Verdict
 bloomLaid h =
     must (eqb (bloomOffset h) (bloomPlace (bloomSize h))) (refusal LayoutBloom 48)
     then must (eqb (bloomSize h % 8) 0) (refusal LayoutBloom 48)
 
--- 52: record count, which is at most 65,536, and records offset
+-- 52: at most 65,536 records, and records offset is 112 + bloom size
 unfoldable pub recordsLaid : Header → Verdict
 recordsLaid h =
     must (leb (recordCount h) recordLimit) (refusal LayoutRecords 32)
     then must (eqb (recordsOffset h) (headerSize + bloomSize h)) (refusal LayoutRecords 32)
 
--- 53: digests offset and digests size
+-- 53: digests offset is records offset + 48 × records, for 48 the shape's record size, and digests size a multiple of 8
 unfoldable pub digestsLaid : Shape → Header → Verdict
 digestsLaid sh h =
     must (eqb (digestsOffset h) (recordsOffset h + sh .«record_size» * recordCount h)) (refusal LayoutDigests 64)
     then must (eqb (digestsSize h % 8) 0) (refusal LayoutDigests 64)
 
--- 54: extents offset
+-- 54: extents offset is digests offset + digests size
 unfoldable pub extentsLaid : Header → Verdict
 extentsLaid h = must (eqb (extentsOffset h) (digestsOffset h + digestsSize h)) (refusal LayoutExtents 80)
 
--- 55: extent count, over a file of n bytes
+-- 55: the file's length n is extents offset + 16 × extent count + 24
 unfoldable pub lengthLaid : Header → ℕ → Verdict
 lengthLaid h n = must (eqb n (extentsOffset h + extentSize * extentCount h + footerSize)) (refusal LayoutLength 88)
 
+-- the five in order, of a file of n bytes
 unfoldable pub layoutVerdict : Shape → Header → ℕ → Verdict
 layoutVerdict sh h n = bloomLaid h then recordsLaid h then digestsLaid sh h then extentsLaid h then lengthLaid h n
 

@@ -1,6 +1,6 @@
 -- docs/SERVICES.md, "The three demands", the first, of any answer: it is answered, or refused by a number of the table and its place; and what is refused leaves
 -- what it was lent to write to.
---   PlaceRule        which place each number has: in a segment, and in what write is lent
+--   PlaceRule     which place each number has: in a segment (inSegment), and in what write is lent (inRequest)
 --   PlacedBy      a number of the table, and its place
 --   Leaves        and an output, which a refused call leaves
 --   Stays         and a walk, which a refused step leaves where it is
@@ -26,7 +26,7 @@ Numbered a = (eqb (a .number) 0 || inTable (a .number)) ≡ true
 
 -- ---- which place a number has
 
--- at an item, for some numbers, and for every other one where it is said
+-- which numbers are of an item, a record or an entry; which places an item has; and the one place of every other number
 pub record PlaceRule : Type 1 where
   pub ofItem : ℕ → Bool
   pub Item : ℕ → Type 0

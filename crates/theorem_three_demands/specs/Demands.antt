@@ -49,7 +49,7 @@ pub record DemandOne (pairs table s : List ℕ) (key : Key) (at : ℕ) (q : Requ
   pub lengthIn : (listed : List Pair) (hash : ℕ) → lengthOf listed hash .number ≡ 0
   -- `number` of any refusal; `place`, `start` and `asl_raw_version` refuse nothing and write to nothing
   pub number : (r : Refusal) → inTable (numberOf r) ≡ true
-  -- and each number of the table is some refusal's, so that 5 is none
+  -- each number of the table is some refusal's, and 5 is none of them
   pub numbers : (n : ℕ) → inTable n ≡ true → (r : Refusal) × (numberOf r ≡ n)
   pub gap : inTable 5 ≡ false
   -- `asl_raw_check`, .. `asl_raw_write`
