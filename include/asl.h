@@ -1,17 +1,20 @@
 /*
- * asl.h: check, look up, walk, tidy and write ASL index segments. Version 3 of the interface.
+ * asl.h: check, look up, walk, tidy and write ASL index segments. Version 3.1 of the interface.
  *
  * A segment is accepted whole, or refused with a number and a place. Every call makes the whole check itself, so no
  * answer is ever drawn from a damaged segment. docs/C.md has an example that can be compiled, and says how a program
- * moves here from version 2, and from version 1. docs/SERVICES.md says what each call answers and refuses,
- * docs/FORMAT.md which field earns which refusal.
+ * moves here from version 3.0, from version 2, and from version 1. docs/SERVICES.md says what each call answers and
+ * refuses, docs/FORMAT.md which field earns which refusal.
  *
- * Call asl_check, asl_look_up, asl_step, asl_tidy_length, asl_tidy and asl_write. They are inline and stand over the
- * library's own symbols, asl_raw_.., which take bare bytes and numbers.
+ * Call asl_check, asl_look_up, asl_step, asl_tidy_length, asl_tidy and asl_write; and asl_checksum and asl_checksum_on
+ * for the checksum alone. They are inline and stand over the library's own symbols, asl_raw_.., which take bare bytes
+ * and numbers.
  *
- * ANSWERS     Every call returns an asl_answer. It is a struct and no number, so that it cannot be compared with 0 or
- *             stand in an if: ask it by asl_ok, asl_number and the other functions below. The compiler warns where an
- *             answer is not used.
+ * ANSWERS     The first six return an asl_answer. It is a struct and no number, so that it cannot be compared with 0
+ *             or stand in an if: ask it by asl_ok, asl_number and the other functions below. The compiler warns where
+ *             an answer is not used. A checksum is a number; its calls refuse nothing.
+ * ENGINES     Each call has a twin that ends in _by and takes the engine of the checksum, asl_engine, as its first
+ *             argument. The engine makes no difference to any answer, nor to any byte of any buffer.
  * REFUSED     A refused call changes nothing at all: no byte of any buffer, and nothing that `found` or `fields`
  *             points to.
  * BUFFERS     A buffer is a pointer and its size. NULL with size 0 is an empty one, and no other pointer is NULL.
@@ -24,7 +27,7 @@
  *             alignment.
  * THREADS     The library has no state at all. Calls from any number of threads are safe as long as no thread changes
  *             a buffer that another thread's call is lent.
- * STACK       Every call needs less than 1 MiB of it.
+ * STACK       Every call needs less than 1 MiB of it, by either engine.
  * VERSIONS    The interface and the format of the segments are counted apart; that both are at 3 is chance. The format
  *             (ASL_FORMAT_VERSION) is the same as in version 2 of the interface, and so are the segments accepted.
  */
@@ -58,7 +61,7 @@ extern "C" {
 
 /* Of this header. ASL_VERSION is one number, which #if can compare: major * 2^32 + minor * 2^16 + patch. */
 #define ASL_VERSION_MAJOR 3
-#define ASL_VERSION_MINOR 0
+#define ASL_VERSION_MINOR 1
 #define ASL_VERSION_PATCH 0
 #define ASL_VERSION \
     (ASL_VERSION_MAJOR * UINT64_C(4294967296) + ASL_VERSION_MINOR * UINT64_C(65536) + ASL_VERSION_PATCH)
@@ -270,6 +273,20 @@ typedef struct asl_record {
 
 #define ASL_FLAG_GONE 1u /* what the key names is gone */
 
+/* Engines -------------------------------------------------------------------------------------------------------- */
+
+/*
+ * The checksum has two engines. Both are proved to give the checksum of the format on every input, so they differ in
+ * time and in stack alone. Every other number is settled too: it is taken as ASL_ENGINE_FAST. The plain one is there
+ *   to compare      a run by each engine shows that the machine does as the proof says, tables included;
+ *   for the stack   the fast one puts its tables there, 16 KiB, in every call whose input is long enough to pay for it;
+ *   for the reader  it has no tables that have to be believed by whoever has not read the proof.
+ */
+enum asl_engine {
+    ASL_ENGINE_FAST = 0, /* eight bytes at a step, by tables; what a caller gets who does not choose */
+    ASL_ENGINE_PLAIN = 1 /* bit by bit */
+};
+
 /* The library's own symbols -------------------------------------------------------------------------------------- */
 
 /*
@@ -281,6 +298,7 @@ typedef struct asl_record {
  *   fields       is ASL_FIELDS_SIZE bytes at least, else 13, where there is a record. asl_record_of reads them.
  *   entries      is a flat list, nine numbers to an entry. ENTRIES_COUNT COUNTS NUMBERS, NOT ENTRIES.
  *   extents      is a flat list, three numbers to an extent. EXTENTS_COUNT COUNTS NUMBERS, NOT EXTENTS.
+ *   engine       is one of asl_engine; any other number is taken as ASL_ENGINE_FAST, as it is where there is none.
  * An unfinished last item of a list is not read. Bytes of found and fields after those that are left stay.
  */
 #define ASL_FOUND_SIZE 64u   /* eight numbers, as asl_found has them */
@@ -303,7 +321,31 @@ ASL_MUST_USE asl_answer asl_raw_write(const uint8_t *table, size_t table_size, u
                                       const uint64_t *entries, size_t entries_count, const uint8_t *digests,
                                       size_t digests_size, const uint64_t *extents, size_t extents_count,
                                       uint8_t *out, size_t out_size);
+ASL_MUST_USE uint64_t asl_raw_checksum(const uint8_t *bytes, size_t size);
+ASL_MUST_USE uint64_t asl_raw_checksum_on(uint64_t before, const uint8_t *bytes, size_t size);
 ASL_MUST_USE uint64_t asl_raw_version(void);
+
+ASL_MUST_USE asl_answer asl_raw_check_by(uint64_t engine, const uint8_t *table, size_t table_size,
+                                         const uint8_t *segment, size_t segment_size);
+ASL_MUST_USE asl_answer asl_raw_look_up_by(uint64_t engine, const uint8_t *table, size_t table_size,
+                                           const uint8_t *segment, size_t segment_size, uint64_t hash_id,
+                                           const uint8_t *digest, size_t digest_size, uint8_t *found,
+                                           size_t found_size);
+ASL_MUST_USE asl_answer asl_raw_step_by(uint64_t engine, const uint8_t *table, size_t table_size,
+                                        const uint8_t *segment, size_t segment_size, uint64_t record, uint8_t *fields,
+                                        size_t fields_size);
+ASL_MUST_USE asl_answer asl_raw_tidy_length_by(uint64_t engine, const uint8_t *table, size_t table_size,
+                                               const uint8_t *segment, size_t segment_size);
+ASL_MUST_USE asl_answer asl_raw_tidy_by(uint64_t engine, const uint8_t *table, size_t table_size,
+                                        const uint8_t *segment, size_t segment_size, uint8_t *out, size_t out_size);
+ASL_MUST_USE asl_answer asl_raw_write_by(uint64_t engine, const uint8_t *table, size_t table_size, uint16_t shard,
+                                         uint64_t snapshot_min, uint64_t snapshot_max, uint32_t domain,
+                                         uint64_t seal_snapshot, uint64_t seal_time, const uint8_t *bloom,
+                                         size_t bloom_size, const uint64_t *entries, size_t entries_count,
+                                         const uint8_t *digests, size_t digests_size, const uint64_t *extents,
+                                         size_t extents_count, uint8_t *out, size_t out_size);
+ASL_MUST_USE uint64_t asl_raw_checksum_by(uint64_t engine, const uint8_t *bytes, size_t size);
+ASL_MUST_USE uint64_t asl_raw_checksum_on_by(uint64_t engine, uint64_t before, const uint8_t *bytes, size_t size);
 
 /* Numbers in bytes ----------------------------------------------------------------------------------------------- */
 
@@ -362,7 +404,15 @@ static inline asl_extent asl_extent_at(const uint8_t *segment, uint64_t start, u
 
 /* The calls ------------------------------------------------------------------------------------------------------ */
 
-/* The version of the library that is linked, as ASL_VERSION. It fits this header if the major numbers are the same. */
+/*
+ * What is said of a call holds for its two forms, without an engine and _by one. The first is the second with
+ * ASL_ENGINE_FAST.
+ */
+
+/*
+ * The version of the library that is linked, as ASL_VERSION. It fits this header if the major numbers are the same and
+ * its minor number is no smaller than this header's.
+ */
 ASL_MUST_USE static inline uint64_t asl_version(void) { return asl_raw_version(); }
 
 /* Bytes of a table of that many pairs. More than a table can have are lent as none: either is refused with 14. */
@@ -377,9 +427,14 @@ static inline size_t asl_table_size(size_t pair_count) {
  *
  * Nothing is written. The value of the answer is 0.
  */
+ASL_MUST_USE static inline asl_answer asl_check_by(uint64_t engine, const asl_pair *pairs, size_t pair_count,
+                                                   const uint8_t *segment, size_t segment_size) {
+    return asl_raw_check_by(engine, (const uint8_t *)pairs, asl_table_size(pair_count), segment, segment_size);
+}
+
 ASL_MUST_USE static inline asl_answer asl_check(const asl_pair *pairs, size_t pair_count, const uint8_t *segment,
                                                 size_t segment_size) {
-    return asl_raw_check((const uint8_t *)pairs, asl_table_size(pair_count), segment, segment_size);
+    return asl_check_by(ASL_ENGINE_FAST, pairs, pair_count, segment, segment_size);
 }
 
 /*
@@ -391,14 +446,21 @@ ASL_MUST_USE static inline asl_answer asl_check(const asl_pair *pairs, size_t pa
  * hash_id is wider than its field so that one that does not fit it is refused and not cut.
  * found: if answered, all eight numbers are set; else none.
  */
+ASL_MUST_USE static inline asl_answer asl_look_up_by(uint64_t engine, const asl_pair *pairs, size_t pair_count,
+                                                     const uint8_t *segment, size_t segment_size, uint64_t hash_id,
+                                                     const uint8_t *digest, size_t digest_size, asl_found *found) {
+    uint8_t left[ASL_FOUND_SIZE];
+    asl_answer a = asl_raw_look_up_by(engine, (const uint8_t *)pairs, asl_table_size(pair_count), segment,
+                                      segment_size, hash_id, digest, digest_size, left, found ? sizeof left : 0);
+    if (asl_ok(a)) *found = asl_found_of(left);
+    return a;
+}
+
 ASL_MUST_USE static inline asl_answer asl_look_up(const asl_pair *pairs, size_t pair_count, const uint8_t *segment,
                                                   size_t segment_size, uint64_t hash_id, const uint8_t *digest,
                                                   size_t digest_size, asl_found *found) {
-    uint8_t left[ASL_FOUND_SIZE];
-    asl_answer a = asl_raw_look_up((const uint8_t *)pairs, asl_table_size(pair_count), segment, segment_size, hash_id,
-                                   digest, digest_size, left, found ? sizeof left : 0);
-    if (asl_ok(a)) *found = asl_found_of(left);
-    return a;
+    return asl_look_up_by(ASL_ENGINE_FAST, pairs, pair_count, segment, segment_size, hash_id, digest, digest_size,
+                          found);
 }
 
 /*
@@ -410,13 +472,19 @@ ASL_MUST_USE static inline asl_answer asl_look_up(const asl_pair *pairs, size_t 
  * Every step makes the whole check, so a walk takes as many checks as there are records, and one more.
  * fields: if there is such a record, all thirteen numbers are set; if done or refused, none.
  */
-ASL_MUST_USE static inline asl_answer asl_step(const asl_pair *pairs, size_t pair_count, const uint8_t *segment,
-                                               size_t segment_size, uint64_t record, asl_record *fields) {
+ASL_MUST_USE static inline asl_answer asl_step_by(uint64_t engine, const asl_pair *pairs, size_t pair_count,
+                                                  const uint8_t *segment, size_t segment_size, uint64_t record,
+                                                  asl_record *fields) {
     uint8_t left[ASL_FIELDS_SIZE];
-    asl_answer a = asl_raw_step((const uint8_t *)pairs, asl_table_size(pair_count), segment, segment_size, record,
-                                left, fields ? sizeof left : 0);
+    asl_answer a = asl_raw_step_by(engine, (const uint8_t *)pairs, asl_table_size(pair_count), segment, segment_size,
+                                   record, left, fields ? sizeof left : 0);
     if (asl_stepped(a)) *fields = asl_record_of(left);
     return a;
+}
+
+ASL_MUST_USE static inline asl_answer asl_step(const asl_pair *pairs, size_t pair_count, const uint8_t *segment,
+                                               size_t segment_size, uint64_t record, asl_record *fields) {
+    return asl_step_by(ASL_ENGINE_FAST, pairs, pair_count, segment, segment_size, record, fields);
 }
 
 /*
@@ -426,9 +494,14 @@ ASL_MUST_USE static inline asl_answer asl_step(const asl_pair *pairs, size_t pai
  *
  * Nothing is written.
  */
+ASL_MUST_USE static inline asl_answer asl_tidy_length_by(uint64_t engine, const asl_pair *pairs, size_t pair_count,
+                                                         const uint8_t *segment, size_t segment_size) {
+    return asl_raw_tidy_length_by(engine, (const uint8_t *)pairs, asl_table_size(pair_count), segment, segment_size);
+}
+
 ASL_MUST_USE static inline asl_answer asl_tidy_length(const asl_pair *pairs, size_t pair_count,
                                                       const uint8_t *segment, size_t segment_size) {
-    return asl_raw_tidy_length((const uint8_t *)pairs, asl_table_size(pair_count), segment, segment_size);
+    return asl_tidy_length_by(ASL_ENGINE_FAST, pairs, pair_count, segment, segment_size);
 }
 
 /*
@@ -439,9 +512,16 @@ ASL_MUST_USE static inline asl_answer asl_tidy_length(const asl_pair *pairs, siz
  *
  * out: if answered, its first bytes, asl_length of them, are the tidy form; bytes after it stay.
  */
+ASL_MUST_USE static inline asl_answer asl_tidy_by(uint64_t engine, const asl_pair *pairs, size_t pair_count,
+                                                  const uint8_t *segment, size_t segment_size, uint8_t *out,
+                                                  size_t out_size) {
+    return asl_raw_tidy_by(engine, (const uint8_t *)pairs, asl_table_size(pair_count), segment, segment_size, out,
+                           out_size);
+}
+
 ASL_MUST_USE static inline asl_answer asl_tidy(const asl_pair *pairs, size_t pair_count, const uint8_t *segment,
                                                size_t segment_size, uint8_t *out, size_t out_size) {
-    return asl_raw_tidy((const uint8_t *)pairs, asl_table_size(pair_count), segment, segment_size, out, out_size);
+    return asl_tidy_by(ASL_ENGINE_FAST, pairs, pair_count, segment, segment_size, out, out_size);
 }
 
 /*
@@ -481,21 +561,57 @@ static inline size_t asl_write_length(size_t bloom_size, const asl_entry *entrie
  *
  * out: if answered, its first bytes, asl_length of them, are the segment; bytes after it stay.
  */
-ASL_MUST_USE static inline asl_answer asl_write(const asl_pair *pairs, size_t pair_count, asl_heading heading,
-                                                const uint8_t *bloom, size_t bloom_size, const asl_entry *entries,
-                                                size_t entry_count, const uint8_t *digests, size_t digests_size,
-                                                const asl_extent *extents, size_t extent_count, uint8_t *out,
-                                                size_t out_size) {
+ASL_MUST_USE static inline asl_answer asl_write_by(uint64_t engine, const asl_pair *pairs, size_t pair_count,
+                                                   asl_heading heading, const uint8_t *bloom, size_t bloom_size,
+                                                   const asl_entry *entries, size_t entry_count,
+                                                   const uint8_t *digests, size_t digests_size,
+                                                   const asl_extent *extents, size_t extent_count, uint8_t *out,
+                                                   size_t out_size) {
     /* No count may wrap when it is made a count of numbers. One entry over the limit is refused as any more are. */
     size_t whole_entries = entry_count > ASL_RECORDS_LIMIT ? ASL_RECORDS_LIMIT + 1 : entry_count;
     /* No memory holds so many extents, so they are lent as none: an entry that has extents is refused with 15, and for
        one that has none the list makes no difference. */
     size_t whole_extents = extent_count > PTRDIFF_MAX / sizeof(asl_extent) ? 0 : extent_count;
-    return asl_raw_write((const uint8_t *)pairs, asl_table_size(pair_count), heading.shard, heading.snapshot_min,
-                         heading.snapshot_max, heading.domain, heading.seal_snapshot, heading.seal_time, bloom,
-                         bloom_size, (const uint64_t *)entries, whole_entries * (sizeof(asl_entry) / sizeof(uint64_t)),
-                         digests, digests_size, (const uint64_t *)extents,
-                         whole_extents * (sizeof(asl_extent) / sizeof(uint64_t)), out, out_size);
+    return asl_raw_write_by(engine, (const uint8_t *)pairs, asl_table_size(pair_count), heading.shard,
+                            heading.snapshot_min, heading.snapshot_max, heading.domain, heading.seal_snapshot,
+                            heading.seal_time, bloom, bloom_size, (const uint64_t *)entries,
+                            whole_entries * (sizeof(asl_entry) / sizeof(uint64_t)), digests, digests_size,
+                            (const uint64_t *)extents, whole_extents * (sizeof(asl_extent) / sizeof(uint64_t)), out,
+                            out_size);
+}
+
+ASL_MUST_USE static inline asl_answer asl_write(const asl_pair *pairs, size_t pair_count, asl_heading heading,
+                                                const uint8_t *bloom, size_t bloom_size, const asl_entry *entries,
+                                                size_t entry_count, const uint8_t *digests, size_t digests_size,
+                                                const asl_extent *extents, size_t extent_count, uint8_t *out,
+                                                size_t out_size) {
+    return asl_write_by(ASL_ENGINE_FAST, pairs, pair_count, heading, bloom, bloom_size, entries, entry_count, digests,
+                        digests_size, extents, extent_count, out, out_size);
+}
+
+/*
+ * The checksum of bytes: the CRC-64 of the .xz format, which is what a segment has in its footer over all bytes before
+ * it. "123456789" has 0x995DC9BBDF1939FA, and no bytes have 0. Any bytes will do, and nothing is refused.
+ */
+ASL_MUST_USE static inline uint64_t asl_checksum_by(uint64_t engine, const uint8_t *bytes, size_t size) {
+    return asl_raw_checksum_by(engine, bytes, size);
+}
+
+ASL_MUST_USE static inline uint64_t asl_checksum(const uint8_t *bytes, size_t size) {
+    return asl_checksum_by(ASL_ENGINE_FAST, bytes, size);
+}
+
+/*
+ * The checksum of some bytes followed by these, where `before` is the checksum of the former. So a long input can be
+ * taken in parts, each by any engine: sum = 0; then for each part sum = asl_checksum_on(sum, part, part_size).
+ */
+ASL_MUST_USE static inline uint64_t asl_checksum_on_by(uint64_t engine, uint64_t before, const uint8_t *bytes,
+                                                       size_t size) {
+    return asl_raw_checksum_on_by(engine, before, bytes, size);
+}
+
+ASL_MUST_USE static inline uint64_t asl_checksum_on(uint64_t before, const uint8_t *bytes, size_t size) {
+    return asl_checksum_on_by(ASL_ENGINE_FAST, before, bytes, size);
 }
 
 #ifdef __cplusplus

@@ -78,7 +78,7 @@ static void put64(uint8_t *at, uint64_t number) {
     put32(at + 4, (uint32_t)(number >> 32));
 }
 
-// The checksum: eight bytes at a time, by eight tables --------------------------------------------------------------
+// The checksum: eight bytes at a step, by eight tables, or one -------------------------------------------------------
 
 static uint64_t after[8][256]; // after[k][b] is the register b after k + 1 bytes of zeros
 
@@ -92,11 +92,10 @@ __attribute__((constructor)) static void fill_tables(void) {
         for (int b = 0; b < 256; b++) after[k][b] = after[k - 1][b] >> 8 ^ after[0][after[k - 1][b] & 255];
 }
 
-uint64_t NAME(crc64)(const uint8_t *bytes, size_t size);
-
-uint64_t NAME(crc64)(const uint8_t *bytes, size_t size) {
-    uint64_t c = UINT64_MAX;
-    for (; STRIDE == 8 && size >= 8; size -= 8, bytes += 8) {
+// The checksum of some bytes followed by these, where `before` is that of the former. The stride is 8 or 1.
+static uint64_t crc64_on(int stride, uint64_t before, const uint8_t *bytes, size_t size) {
+    uint64_t c = ~before;
+    for (; stride == 8 && size >= 8; size -= 8, bytes += 8) {
         c ^= get64(bytes);
         c = after[7][c & 255] ^ after[6][c >> 8 & 255] ^ after[5][c >> 16 & 255] ^ after[4][c >> 24 & 255] ^
             after[3][c >> 32 & 255] ^ after[2][c >> 40 & 255] ^ after[1][c >> 48 & 255] ^ after[0][c >> 56];
@@ -104,3 +103,7 @@ uint64_t NAME(crc64)(const uint8_t *bytes, size_t size) {
     for (; size > 0; size--, bytes++) c = c >> 8 ^ after[0][(c ^ *bytes) & 255];
     return ~c;
 }
+
+uint64_t NAME(crc64)(const uint8_t *bytes, size_t size);
+
+uint64_t NAME(crc64)(const uint8_t *bytes, size_t size) { return crc64_on(STRIDE, 0, bytes, size); }

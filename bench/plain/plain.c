@@ -3,13 +3,33 @@
 // is no memory, since there is no refusal for that.
 //
 // NAME gives the functions their names: those of asl.h by default, so that this links in the library's place. Compiled
-// with -D'NAME(x)=plain_##x' it links beside it. NAME(crc64) is its checksum, which takes eight bytes at a step, or one
-// with -DSTRIDE=1, as the library's plain engine does.
+// with -D'NAME(x)=plain_##x' it links beside it. A caller who does not choose an engine gets a checksum that takes eight
+// bytes at a step, or one with -DSTRIDE=1; it is NAME(crc64). One who chooses gets eight by the fast engine and one by the
+// plain one.
 #include "items.h"
 
 static asl_answer answered(uint64_t value) { return (asl_answer){value << 16}; }
 static asl_answer refusal(uint64_t number, uint64_t place) { return (asl_answer){number | place << 16}; }
 static asl_answer accepted(void) { return answered(0); }
+
+// The checksum by an engine -----------------------------------------------------------------------------------------
+
+// What a caller gets who does not choose.
+static const uint64_t UNCHOSEN = STRIDE == 8 ? ASL_ENGINE_FAST : ASL_ENGINE_PLAIN;
+
+uint64_t NAME(checksum_on_by)(uint64_t engine, uint64_t before, const uint8_t *bytes, size_t size) {
+    return crc64_on(engine == ASL_ENGINE_PLAIN ? 1 : 8, before, bytes, size);
+}
+
+uint64_t NAME(checksum_on)(uint64_t before, const uint8_t *bytes, size_t size) {
+    return NAME(checksum_on_by)(UNCHOSEN, before, bytes, size);
+}
+
+uint64_t NAME(checksum_by)(uint64_t engine, const uint8_t *bytes, size_t size) {
+    return NAME(checksum_on_by)(engine, 0, bytes, size);
+}
+
+uint64_t NAME(checksum)(const uint8_t *bytes, size_t size) { return NAME(crc64)(bytes, size); }
 
 // Reading a segment -------------------------------------------------------------------------------------------------
 
@@ -40,7 +60,7 @@ static asl_answer check_layout(const struct segment *s) {
 }
 
 // Refusals 1 to 4, 51 to 55 and 6; *s is the segment if there is none.
-static asl_answer read_segment(struct segment *s, const uint8_t *bytes, size_t size) {
+static asl_answer read_segment(struct segment *s, uint64_t engine, const uint8_t *bytes, size_t size) {
     if (size < ASL_LEAST || size > ASL_LIMIT) return refusal(ASL_REFUSED_SIZE, 0);
     if (memcmp(bytes + H_MAGIC, MAGIC, sizeof MAGIC) != 0) return refusal(ASL_REFUSED_MAGIC, 0);
     if (get16(bytes + H_VERSION) != ASL_FORMAT_VERSION) return refusal(ASL_REFUSED_VERSION, 0);
@@ -63,7 +83,7 @@ static asl_answer read_segment(struct segment *s, const uint8_t *bytes, size_t s
     };
     asl_answer laid_out = check_layout(s);
     if (!asl_ok(laid_out)) return laid_out;
-    if (get64(bytes + size - FOOTER + F_CRC64) != NAME(crc64)(bytes, size - FOOTER))
+    if (get64(bytes + size - FOOTER + F_CRC64) != NAME(checksum_by)(engine, bytes, size - FOOTER))
         return refusal(ASL_REFUSED_CHECKSUM, 0);
     return accepted();
 }
@@ -154,8 +174,9 @@ static asl_answer check_records(const struct segment *s, const struct table *t) 
 }
 
 // The whole check, but for the table.
-static asl_answer check_segment(struct segment *s, const struct table *t, const uint8_t *bytes, size_t size) {
-    asl_answer read = read_segment(s, bytes, size);
+static asl_answer check_segment(struct segment *s, uint64_t engine, const struct table *t, const uint8_t *bytes,
+                                size_t size) {
+    asl_answer read = read_segment(s, engine, bytes, size);
     return asl_ok(read) ? check_records(s, t) : read;
 }
 
@@ -245,7 +266,7 @@ static void put_extents(uint8_t *out, const struct item *item) {
     }
 }
 
-static void put_segment(uint8_t *out, const struct heading *h, const struct item *items, size_t count,
+static void put_segment(uint8_t *out, uint64_t engine, const struct heading *h, const struct item *items, size_t count,
                         const struct places *p) {
     uint64_t record = p->records, digest = p->digests, extents = p->extents;
     uint8_t visibility = 0;
@@ -261,19 +282,20 @@ static void put_segment(uint8_t *out, const struct heading *h, const struct item
     memset(out + digest, 0, p->extents - digest);
     put_header(out, h, p, count, visibility);
     if (h->bloom_size) memcpy(out + HEADER, h->bloom, h->bloom_size);
-    put64(out + p->footer + F_CRC64, NAME(crc64)(out, p->footer));
+    put64(out + p->footer + F_CRC64, NAME(checksum_by)(engine, out, p->footer));
     put64(out + p->footer + F_SEAL_SNAPSHOT, h->seal_snapshot);
     put64(out + p->footer + F_SEAL_TIME, h->seal_time);
 }
 
 // The tidy form of the items, which it sorts: refusals 16 for the size and 13, or the result.
-static asl_answer finish(const struct heading *h, struct item *items, size_t count, uint8_t *out, size_t out_size) {
+static asl_answer finish(uint64_t engine, const struct heading *h, struct item *items, size_t count, uint8_t *out,
+                         size_t out_size) {
     struct places p = places_of(h->bloom_size, items, count);
     asl_answer a = measured(&p);
     if (!asl_ok(a)) return a;
     if (p.length > out_size) return refusal(ASL_REFUSED_ROOM, 0);
     if (!ascend(items, count)) qsort(items, count, sizeof *items, compare_for_qsort);
-    put_segment(out, h, items, count, &p);
+    put_segment(out, engine, h, items, count, &p);
     return a;
 }
 
@@ -343,16 +365,21 @@ static asl_answer read_entries(const struct lists *l, const struct table *t, con
 // The services ------------------------------------------------------------------------------------------------------
 
 // The whole check, table and segment; *s is the segment if it is accepted.
-static asl_answer check_both(struct segment *s, const uint8_t *table, size_t table_size, const uint8_t *segment,
-                             size_t segment_size) {
+static asl_answer check_both(struct segment *s, uint64_t engine, const uint8_t *table, size_t table_size,
+                             const uint8_t *segment, size_t segment_size) {
     struct table t;
     if (!read_table(&t, table, table_size)) return refusal(ASL_REFUSED_TABLE, 0);
-    return check_segment(s, &t, segment, segment_size);
+    return check_segment(s, engine, &t, segment, segment_size);
+}
+
+asl_answer NAME(check_by)(uint64_t engine, const uint8_t *table, size_t table_size, const uint8_t *segment,
+                          size_t segment_size) {
+    struct segment s;
+    return check_both(&s, engine, table, table_size, segment, segment_size);
 }
 
 asl_answer NAME(check)(const uint8_t *table, size_t table_size, const uint8_t *segment, size_t segment_size) {
-    struct segment s;
-    return check_both(&s, table, table_size, segment, segment_size);
+    return NAME(check_by)(UNCHOSEN, table, table_size, segment, segment_size);
 }
 
 // Numbers, eight bytes to each.
@@ -370,15 +397,15 @@ static const uint8_t *record_of(const struct segment *s, uint64_t hash_id, const
     return NULL;
 }
 
-asl_answer NAME(look_up)(const uint8_t *table, size_t table_size, const uint8_t *segment, size_t segment_size,
-                         uint64_t hash_id, const uint8_t *digest, size_t digest_size, uint8_t *found,
-                         size_t found_size) {
+asl_answer NAME(look_up_by)(uint64_t engine, const uint8_t *table, size_t table_size, const uint8_t *segment,
+                            size_t segment_size, uint64_t hash_id, const uint8_t *digest, size_t digest_size,
+                            uint8_t *found, size_t found_size) {
     struct table t;
     struct segment s;
     uint64_t numbers[8] = {ASL_STATE_ABSENT};
     if (!read_table(&t, table, table_size)) return refusal(ASL_REFUSED_TABLE, 0);
     if (!allows(&t, hash_id, digest_size)) return refusal(ASL_REFUSED_KEY, 0);
-    asl_answer a = check_segment(&s, &t, segment, segment_size);
+    asl_answer a = check_segment(&s, engine, &t, segment, segment_size);
     if (!asl_ok(a)) return a;
     if (found_size < sizeof numbers) return refusal(ASL_REFUSED_ROOM, 0);
     const uint8_t *r = record_of(&s, hash_id, digest, digest_size);
@@ -397,10 +424,17 @@ asl_answer NAME(look_up)(const uint8_t *table, size_t table_size, const uint8_t 
     return answered(numbers[0]);
 }
 
-asl_answer NAME(step)(const uint8_t *table, size_t table_size, const uint8_t *segment, size_t segment_size,
-                      uint64_t record, uint8_t *fields, size_t fields_size) {
+asl_answer NAME(look_up)(const uint8_t *table, size_t table_size, const uint8_t *segment, size_t segment_size,
+                         uint64_t hash_id, const uint8_t *digest, size_t digest_size, uint8_t *found,
+                         size_t found_size) {
+    return NAME(look_up_by)(UNCHOSEN, table, table_size, segment, segment_size, hash_id, digest, digest_size, found,
+                            found_size);
+}
+
+asl_answer NAME(step_by)(uint64_t engine, const uint8_t *table, size_t table_size, const uint8_t *segment,
+                         size_t segment_size, uint64_t record, uint8_t *fields, size_t fields_size) {
     struct segment s;
-    asl_answer a = check_both(&s, table, table_size, segment, segment_size);
+    asl_answer a = check_both(&s, engine, table, table_size, segment, segment_size);
     if (!asl_ok(a)) return a;
     if (record >= s.record_count) return answered(ASL_STEP_DONE);
     const uint8_t *r = record_at(&s, record);
@@ -414,9 +448,15 @@ asl_answer NAME(step)(const uint8_t *table, size_t table_size, const uint8_t *se
     return answered(ASL_STEP_RECORD);
 }
 
-asl_answer NAME(tidy_length)(const uint8_t *table, size_t table_size, const uint8_t *segment, size_t segment_size) {
+asl_answer NAME(step)(const uint8_t *table, size_t table_size, const uint8_t *segment, size_t segment_size,
+                      uint64_t record, uint8_t *fields, size_t fields_size) {
+    return NAME(step_by)(UNCHOSEN, table, table_size, segment, segment_size, record, fields, fields_size);
+}
+
+asl_answer NAME(tidy_length_by)(uint64_t engine, const uint8_t *table, size_t table_size, const uint8_t *segment,
+                                size_t segment_size) {
     struct segment s;
-    asl_answer a = check_both(&s, table, table_size, segment, segment_size);
+    asl_answer a = check_both(&s, engine, table, table_size, segment, segment_size);
     if (!asl_ok(a)) return a;
     struct item *items = record_items(&s);
     struct places p = places_of(s.bloom_size, items, s.record_count);
@@ -424,10 +464,14 @@ asl_answer NAME(tidy_length)(const uint8_t *table, size_t table_size, const uint
     return measured(&p);
 }
 
-asl_answer NAME(tidy)(const uint8_t *table, size_t table_size, const uint8_t *segment, size_t segment_size,
-                      uint8_t *out, size_t out_size) {
+asl_answer NAME(tidy_length)(const uint8_t *table, size_t table_size, const uint8_t *segment, size_t segment_size) {
+    return NAME(tidy_length_by)(UNCHOSEN, table, table_size, segment, segment_size);
+}
+
+asl_answer NAME(tidy_by)(uint64_t engine, const uint8_t *table, size_t table_size, const uint8_t *segment,
+                         size_t segment_size, uint8_t *out, size_t out_size) {
     struct segment s;
-    asl_answer a = check_both(&s, table, table_size, segment, segment_size);
+    asl_answer a = check_both(&s, engine, table, table_size, segment, segment_size);
     if (!asl_ok(a)) return a;
     const uint8_t *footer = segment + segment_size - FOOTER;
     struct heading h = {get16(segment + H_SHARD),
@@ -439,17 +483,22 @@ asl_answer NAME(tidy)(const uint8_t *table, size_t table_size, const uint8_t *se
                         segment + HEADER,
                         s.bloom_size};
     struct item *items = record_items(&s);
-    a = finish(&h, items, s.record_count, out, out_size);
+    a = finish(engine, &h, items, s.record_count, out, out_size);
     free(items);
     return a;
 }
 
+asl_answer NAME(tidy)(const uint8_t *table, size_t table_size, const uint8_t *segment, size_t segment_size,
+                      uint8_t *out, size_t out_size) {
+    return NAME(tidy_by)(UNCHOSEN, table, table_size, segment, segment_size, out, out_size);
+}
+
 // The lists are lent as numbers; those of an item lie as in its struct.
-asl_answer NAME(write)(const uint8_t *table, size_t table_size, uint16_t shard, uint64_t snapshot_min,
-                       uint64_t snapshot_max, uint32_t domain, uint64_t seal_snapshot, uint64_t seal_time,
-                       const uint8_t *bloom, size_t bloom_size, const uint64_t *entries, size_t entries_count,
-                       const uint8_t *digests, size_t digests_size, const uint64_t *extents, size_t extents_count,
-                       uint8_t *out, size_t out_size) {
+asl_answer NAME(write_by)(uint64_t engine, const uint8_t *table, size_t table_size, uint16_t shard,
+                          uint64_t snapshot_min, uint64_t snapshot_max, uint32_t domain, uint64_t seal_snapshot,
+                          uint64_t seal_time, const uint8_t *bloom, size_t bloom_size, const uint64_t *entries,
+                          size_t entries_count, const uint8_t *digests, size_t digests_size, const uint64_t *extents,
+                          size_t extents_count, uint8_t *out, size_t out_size) {
     struct table t;
     struct heading h = {shard, snapshot_min, snapshot_max, domain, seal_snapshot, seal_time, bloom, bloom_size};
     struct lists l = {digests, digests_size, (const asl_extent *)extents, extents_count / EXTENT_NUMBERS};
@@ -459,9 +508,19 @@ asl_answer NAME(write)(const uint8_t *table, size_t table_size, uint16_t shard, 
     if (bloom_size % 8 != 0) return refusal(ASL_REFUSED_LAYOUT_BLOOM, 0);
     struct item *items = allocate(count, sizeof *items);
     asl_answer a = read_entries(&l, &t, (const asl_entry *)entries, items, count);
-    if (asl_ok(a)) a = finish(&h, items, count, out, out_size);
+    if (asl_ok(a)) a = finish(engine, &h, items, count, out, out_size);
     free(items);
     return a;
+}
+
+asl_answer NAME(write)(const uint8_t *table, size_t table_size, uint16_t shard, uint64_t snapshot_min,
+                       uint64_t snapshot_max, uint32_t domain, uint64_t seal_snapshot, uint64_t seal_time,
+                       const uint8_t *bloom, size_t bloom_size, const uint64_t *entries, size_t entries_count,
+                       const uint8_t *digests, size_t digests_size, const uint64_t *extents, size_t extents_count,
+                       uint8_t *out, size_t out_size) {
+    return NAME(write_by)(UNCHOSEN, table, table_size, shard, snapshot_min, snapshot_max, domain, seal_snapshot,
+                          seal_time, bloom, bloom_size, entries, entries_count, digests, digests_size, extents,
+                          extents_count, out, out_size);
 }
 
 uint64_t NAME(version)(void) { return ASL_VERSION; }

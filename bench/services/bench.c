@@ -1,11 +1,12 @@
 /*
- * The services of the library beside the same services in plain C (bench/plain), on the same segments, in one run. The C
- * program is there twice: its checksum takes one byte at a step, as the library's plain engine does, or eight.
+ * The services of the library beside the same services in plain C (bench/plain), on the same segments, in one run. The
+ * library is there twice: as a caller gets it who does not choose, so by the fast engine, and by the plain engine. So is
+ * the C program: its checksum takes eight bytes at a step, or one.
  *
- * For each size and order it prints one line to a service: name, records, order, bytes of the segment, then for the
- * library, for C by one byte and for C by eight the median, the fastest and the slowest time of a call in nanoseconds.
- * They take turns, so that all see the machine in the same state, and every buffer was touched before. Two more lines
- * to a segment give the three checksums alone, and liblzma's CRC-64 and a plain pass over the same bytes.
+ * For each size and order it prints one line to a service: name, records, order, bytes of the segment, then for each of
+ * the four, in the order of the enum below, the median, the fastest and the slowest time of a call in nanoseconds. They
+ * take turns, so that all see the machine in the same state, and every buffer was touched before. Two more lines to a
+ * segment give the four checksums alone, and liblzma's CRC-64 and a plain pass over the same bytes.
  */
 #include "asl.h"
 
@@ -15,7 +16,7 @@
 #include <string.h>
 #include <time.h>
 
-/* The functions of one of the three. */
+/* The functions of one of the four. */
 struct services {
     __typeof__(asl_raw_check) *check;
     __typeof__(asl_raw_look_up) *look_up;
@@ -36,13 +37,54 @@ struct services {
     uint64_t name##_crc64(const uint8_t *, size_t);
 DECLARED(by_one)
 DECLARED(by_eight)
-uint64_t crc64_plain(const uint8_t *, size_t); /* the library's engine */
 
-enum { LIBRARY, BY_ONE, BY_EIGHT, SIDES };
+/* The library's calls by its plain engine. */
+static asl_answer plain_check(const uint8_t *table, size_t table_size, const uint8_t *segment, size_t segment_size) {
+    return asl_raw_check_by(ASL_ENGINE_PLAIN, table, table_size, segment, segment_size);
+}
+
+static asl_answer plain_look_up(const uint8_t *table, size_t table_size, const uint8_t *segment, size_t segment_size,
+                                uint64_t hash_id, const uint8_t *digest, size_t digest_size, uint8_t *found,
+                                size_t found_size) {
+    return asl_raw_look_up_by(ASL_ENGINE_PLAIN, table, table_size, segment, segment_size, hash_id, digest, digest_size,
+                              found, found_size);
+}
+
+static asl_answer plain_step(const uint8_t *table, size_t table_size, const uint8_t *segment, size_t segment_size,
+                             uint64_t record, uint8_t *fields, size_t fields_size) {
+    return asl_raw_step_by(ASL_ENGINE_PLAIN, table, table_size, segment, segment_size, record, fields, fields_size);
+}
+
+static asl_answer plain_tidy_length(const uint8_t *table, size_t table_size, const uint8_t *segment,
+                                    size_t segment_size) {
+    return asl_raw_tidy_length_by(ASL_ENGINE_PLAIN, table, table_size, segment, segment_size);
+}
+
+static asl_answer plain_tidy(const uint8_t *table, size_t table_size, const uint8_t *segment, size_t segment_size,
+                             uint8_t *out, size_t out_size) {
+    return asl_raw_tidy_by(ASL_ENGINE_PLAIN, table, table_size, segment, segment_size, out, out_size);
+}
+
+static asl_answer plain_write(const uint8_t *table, size_t table_size, uint16_t shard, uint64_t snapshot_min,
+                              uint64_t snapshot_max, uint32_t domain, uint64_t seal_snapshot, uint64_t seal_time,
+                              const uint8_t *bloom, size_t bloom_size, const uint64_t *entries, size_t entries_count,
+                              const uint8_t *digests, size_t digests_size, const uint64_t *extents,
+                              size_t extents_count, uint8_t *out, size_t out_size) {
+    return asl_raw_write_by(ASL_ENGINE_PLAIN, table, table_size, shard, snapshot_min, snapshot_max, domain,
+                            seal_snapshot, seal_time, bloom, bloom_size, entries, entries_count, digests, digests_size,
+                            extents, extents_count, out, out_size);
+}
+
+static uint64_t plain_checksum(const uint8_t *bytes, size_t size) {
+    return asl_raw_checksum_by(ASL_ENGINE_PLAIN, bytes, size);
+}
+
+enum { LIBRARY, BY_PLAIN, BY_ONE, BY_EIGHT, SIDES };
 #define SERVICES_OF(name, checksum) \
     {name##_check, name##_look_up, name##_step, name##_tidy_length, name##_tidy, name##_write, checksum}
 static const struct services SERVICES[SIDES] = {
-    SERVICES_OF(asl_raw, crc64_plain),
+    SERVICES_OF(asl_raw, asl_raw_checksum),
+    SERVICES_OF(plain, plain_checksum),
     SERVICES_OF(by_one, by_one_crc64),
     SERVICES_OF(by_eight, by_eight_crc64),
 };
@@ -91,10 +133,13 @@ static asl_answer write_with(int side, struct job *j) {
                                 extents_count, j->out, j->room);
 }
 
-/* The library writes the segment as it stands in the job. */
+/* All four write the segment as it stands in the job. */
 static void must_write(struct job *j, const char *otherwise) {
-    asl_answer a = write_with(LIBRARY, j);
-    must(asl_ok(a) && asl_length(a) == j->size && !memcmp(j->segment, j->out, j->size), otherwise);
+    for (int side = 0; side < SIDES; side++) {
+        memset(j->out, 0, j->room);
+        asl_answer a = write_with(side, j);
+        must(asl_ok(a) && asl_length(a) == j->size && !memcmp(j->segment, j->out, j->size), otherwise);
+    }
 }
 
 static void put_entry(struct job *j, size_t k, size_t first, size_t count) {
@@ -134,7 +179,7 @@ static void make(struct job *j, size_t records) {
     j->size = asl_length(a);
     j->segment = need(j->size);
     memcpy(j->segment, j->out, j->size);
-    must_write(j, "the two write different segments");
+    must_write(j, "not all write the same segment");
 }
 
 static void put_checksum(struct job *j) {

@@ -90,14 +90,19 @@ static void put(uint8_t *at, uint64_t number, int size) {
     for (int i = 0; i < size; i++) at[i] = (uint8_t)(number >> 8 * i);
 }
 
-// The checksum made right, bit by bit.
-static void seal(uint8_t *segment, size_t size) {
+// The checksum, bit by bit.
+static uint64_t sum_of(const uint8_t *bytes, size_t size) {
     uint64_t c = UINT64_MAX;
-    for (size_t i = 0; i < size - FOOTER; i++) {
-        c ^= segment[i];
+    for (size_t i = 0; i < size; i++) {
+        c ^= bytes[i];
         for (int bit = 0; bit < 8; bit++) c = c & 1 ? c >> 1 ^ 0xC96C5795D7870F42 : c >> 1;
     }
-    put(segment + size - FOOTER, ~c, 8);
+    return ~c;
+}
+
+// The checksum made right.
+static void seal(uint8_t *segment, size_t size) {
+    put(segment + size - FOOTER, sum_of(segment, size - FOOTER), 8);
 }
 
 // Case L with the heading that is lent to write, in which no two numbers are the same: an exchange would show.
@@ -367,8 +372,51 @@ static void declared(void) {
                    "the structs lie as the raw calls take and leave them");
     asl_extent extent = asl_extent_at(case_l.at, 216, 0);
     calling("asl.h");
-    expect(asl_raw_version() == ((uint64_t)3 << 32) && asl_version() == ASL_VERSION, CHECK, "another version");
+    expect(asl_raw_version() == ((uint64_t)3 << 32) + (1 << 16) && asl_version() == ASL_VERSION, CHECK,
+           "another version");
     expect(memcmp(&extent, extents_of_l, sizeof extent) == 0, LOOK_UP, "another extent");
+}
+
+// The checksum ------------------------------------------------------------------------------------------------------
+
+// The bytes have that checksum by every engine: whole, and in two parts, the first by one engine and the rest by the next.
+static void checksum(struct bytes bytes, uint64_t sum) {
+    struct lent l = lend_copy(0, bytes);
+    size_t first = l.size / 3, rest = l.size - first;
+    const uint8_t *at = l.at, *rest_at = first > 0 ? at + first : at;
+    uint64_t before = asl_raw_checksum(at, first);
+    expect(asl_raw_checksum(at, l.size) == sum && asl_checksum(at, l.size) == sum, CHECKSUM, "another checksum");
+    expect(asl_raw_checksum_on(before, rest_at, rest) == sum &&
+               asl_checksum_on(asl_checksum_on(0, at, first), rest_at, rest) == sum,
+           CHECKSUM, "another checksum in parts");
+    for (int i = 0; i < ENGINES; i++) {
+        uint64_t engine = engines[i].number, next = engines[(i + 1) % ENGINES].number;
+        expect(asl_raw_checksum_by(engine, at, l.size) == sum && asl_checksum_by(engine, at, l.size) == sum, CHECKSUM,
+               engines[i].otherwise);
+        before = asl_checksum_on_by(engine, 0, at, first);
+        expect(asl_raw_checksum_on_by(next, before, rest_at, rest) == sum &&
+                   asl_checksum_on_by(next, before, rest_at, rest) == sum,
+               CHECKSUM, engines[i].otherwise);
+    }
+    expect(kept(l, 0), CHECKSUM, "what was lent for reading changed");
+}
+
+// Published sums; and every length to 80, at whose end the wall stands, so that their beginnings have every alignment;
+// and greater lengths, from some of which on the fast engine makes its tables.
+static void checksums(void) {
+    static uint8_t many[65536 + 5];
+    for (size_t i = 0; i < sizeof many; i++) many[i] = (uint8_t)(i * i >> 3 ^ i);
+    calling("no bytes");
+    checksum(NOTHING, 0);
+    calling("the published bytes");
+    checksum((struct bytes){"123456789", 9}, 0x995DC9BBDF1939FA);
+    for (size_t size = 0; size <= sizeof many; size += size < 80 ? 1 : size < 1024 ? 13 : size - 5) {
+        calling("%zu bytes", size);
+        checksum((struct bytes){many, size}, sum_of(many, size));
+    }
+    calling("case L's own");
+    checksum((struct bytes){case_l.at, case_l.size - FOOTER},
+             number_in((const uint8_t *)case_l.at + case_l.size - FOOTER, 8));
 }
 
 // Many entries ------------------------------------------------------------------------------------------------------
@@ -484,7 +532,7 @@ static void turned_round(void) {
 }
 
 // Results over the limit. For write: each of 4,096 entries has all of 16,384 extents. For tidy: a segment of as many
-// records is made to share one's extents in the same way.
+// records is made to share one's extents in the same way. So each call adds up 67 million lengths.
 static void too_large(void) {
     enum { COUNT = 4096, SHARED = 16384 };
     struct writing a = many(COUNT, SHARED);
@@ -500,8 +548,10 @@ static void too_large(void) {
         put(record + EXTENT_COUNT, SHARED, 4);
     }
     seal((uint8_t *)segment.at, segment.size);
+    takes_long = 1;
     tidy(TABLE, segment, ROOM, refused(ASL_REFUSED_LARGE, 0));
     write_segment(a, refused(ASL_REFUSED_LARGE, 0));
+    takes_long = 0;
     free((void *)segment.at);
     take_back(a);
 }
@@ -531,6 +581,7 @@ static void *all_calls(void *arguments) {
     bad_tables();
     longest();
     declared();
+    checksums();
     written();
     bad_entries();
     bad_lists();

@@ -1,28 +1,60 @@
-// Reads inputs from standard input and writes a line for each: the checksum of the whole, and that of the input run in
-// two parts. An input is two numbers of eight bytes, its length and the place of the cut, and then its bytes.
+// Reads inputs from standard input and writes a line for each: the place of its bytes, which is their address modulo 8,
+// and the checksum by each way there is. An input is four numbers of eight bytes, its length, the place that its bytes
+// are to have and two cuts in ascending order, and then its bytes.
+//
+// The ways, in this order: the whole by either engine, the plain one first; then the input run in one part, in two (cut
+// at the first cut) and in three, in each of these by every choice of an engine for each part. Of the choices bit p is
+// set where the fast engine runs part p.
 #include <inttypes.h>
 #include <stddef.h>
 #include <stdint.h>
 #include <stdio.h>
 #include <stdlib.h>
+#include <string.h>
 
 uint64_t crc64_plain(const uint8_t *s, size_t n);
 uint64_t crc64_plain_on(uint64_t before, const uint8_t *s, size_t n);
+uint64_t crc64_fast(const uint8_t *s, size_t n);
+uint64_t crc64_fast_on(uint64_t before, const uint8_t *s, size_t n);
 uint64_t crc64_finish(uint64_t last);
 
-static uint64_t in_two_parts(const uint8_t *s, size_t n, size_t cut) {
-    uint64_t start = UINT64_MAX;
-    return crc64_finish(crc64_plain_on(crc64_plain_on(start, s, cut), s + cut, n - cut));
+enum { PARTS_MOST = 3 };
+
+static uint64_t (*const ON[])(uint64_t, const uint8_t *, size_t) = {crc64_plain_on, crc64_fast_on};
+
+static uint64_t in_parts(const uint8_t *s, const size_t *ends, int parts, unsigned choice) {
+    uint64_t c = UINT64_MAX; // the register before the first byte
+    size_t begin = 0;
+    for (int p = 0; p < parts; p++) {
+        c = ON[choice >> p & 1](c, s + begin, ends[p] - begin);
+        begin = ends[p];
+    }
+    return crc64_finish(c);
+}
+
+static void show(const uint8_t *s, size_t n, const size_t *cuts) {
+    printf("%u %016" PRIx64 " %016" PRIx64, (unsigned)((uintptr_t)s % 8), crc64_plain(s, n), crc64_fast(s, n));
+    for (int parts = 1; parts <= PARTS_MOST; parts++) {
+        size_t ends[PARTS_MOST];
+        for (int p = 0; p < parts - 1; p++) ends[p] = cuts[p];
+        ends[parts - 1] = n;
+        for (unsigned choice = 0; choice < 1u << parts; choice++)
+            printf(" %016" PRIx64, in_parts(s, ends, parts, choice));
+    }
+    printf("\n");
 }
 
 int main(void) {
-    uint64_t head[2];
+    uint64_t head[4];
     while (fread(head, sizeof head, 1, stdin) == 1) {
-        size_t n = head[0], cut = head[1];
-        uint8_t *s = malloc(n + 1);
-        if (!s || cut > n || fread(s, 1, n, stdin) != n) return 1;
-        printf("%016" PRIx64 " %016" PRIx64 "\n", crc64_plain(s, n), in_two_parts(s, n, cut));
-        free(s);
+        size_t n = head[0], place = head[1], cuts[PARTS_MOST - 1] = {head[2], head[3]};
+        if (place > 7 || cuts[0] > cuts[1] || cuts[1] > n) return 1;
+        uint8_t *room = aligned_alloc(8, n / 8 * 8 + 24);
+        if (!room) return 1;
+        memset(room, 0xA5, n / 8 * 8 + 24); // what stands around the input is known, and not 0
+        if (fread(room + place, 1, n, stdin) != n) return 1;
+        show(room + place, n, cuts);
+        free(room);
     }
     return ferror(stdin) || fflush(stdout);
 }
