@@ -13,8 +13,8 @@
  * ANSWERS     The first six return an asl_answer. It is a struct and no number, so that it cannot be compared with 0
  *             or stand in an if: ask it by asl_ok, asl_number and the other functions below. The compiler warns where
  *             an answer is not used. A checksum is a number; its calls refuse nothing.
- * ENGINES     Each call has a twin that ends in _by and takes the engine of the checksum, asl_engine, as its first
- *             argument. The engine makes no difference to any answer, nor to any byte of any buffer.
+ * ENGINES     Each of the eight has a second form, which ends in _by and takes the engine of the checksum, one of
+ *             asl_engine, as its first argument. The engine makes no difference to any answer or byte of a buffer.
  * REFUSED     A refused call changes nothing at all: no byte of any buffer, and nothing that `found` or `fields`
  *             points to.
  * BUFFERS     A buffer is a pointer and its size. NULL with size 0 is an empty one, and no other pointer is NULL.

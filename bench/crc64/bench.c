@@ -12,9 +12,9 @@
 
 typedef uint64_t checksum(const uint8_t *s, size_t n);
 
-checksum crc64_fast, crc64_plain;    /* the library's engines */
+checksum crc64_fast, crc64_plain;            /* the library's engines */
 checksum eight_gcc_crc64, eight_clang_crc64; /* bench/plain/bytes.h */
-checksum loop_gcc, loop_clang;       /* loop.c */
+checksum loop_gcc, loop_clang;               /* loop.c */
 
 static uint64_t liblzma(const uint8_t *s, size_t n) { return lzma_crc64(s, n, 0); }
 
@@ -22,14 +22,15 @@ static const struct {
     const char *name;
     checksum *sum;
 } WAYS[] = {
-    {"fast", crc64_fast},           {"plain", crc64_plain},   {"eight-gcc", eight_gcc_crc64},
-    {"eight-clang", eight_clang_crc64}, {"loop-gcc", loop_gcc}, {"loop-clang", loop_clang},
+    {"fast", crc64_fast},           {"plain", crc64_plain},
+    {"eight-gcc", eight_gcc_crc64}, {"eight-clang", eight_clang_crc64},
+    {"loop-gcc", loop_gcc},         {"loop-clang", loop_clang},
     {"liblzma", liblzma},
 };
 enum { WAY_COUNT = sizeof WAYS / sizeof *WAYS };
 
 enum { TURNS_LEAST = 15, TURNS_MOST = 2000 };
-static const double TURNS_SECONDS = 0.7; /* how long the turns over one length may take in all, if they are enough */
+static const double TURNS_SECONDS = 0.7;   /* how long the turns over one length may take in all, if they are enough */
 static const double SAMPLE_SECONDS = 5e-5; /* how long a sample takes at least, so that the clock's steps do not show */
 
 static volatile uint64_t kept; /* so that no call is left out */

@@ -1,5 +1,5 @@
-"""report.py [--hold] TIMES [FOLDER]: the table, and in FOLDER the table and a plot, of what `bench` measured. With --hold
-also the ratios that docs/PERFORMANCE.md wants, and status 1 where one is not met.
+"""report.py [--hold] TIMES [FOLDER]: the table, and in FOLDER the table and a plot, of what `bench` measured. With
+--hold also the ratios that docs/PERFORMANCE.md wants, and status 1 where one is not met.
 
 A line of TIMES: bytes, way, and the nanoseconds of a call in the fastest of the turns.
 """
@@ -62,8 +62,8 @@ def page(times):
     rows = [
         title("bench/crc64/run"),
         "",
-        "The time of a call, the fastest of many turns, and the speed. The last columns are speeds over one another; of two",
-        "compilers the faster one counts.",
+        "The time of a call, the fastest of many turns, and the speed. The last columns are speeds over one another;",
+        "of two compilers the faster one counts.",
         "",
         "| bytes | " + " | ".join([*WAYS.values(), *RATIOS]) + " |",
         "|" + (1 + len(WAYS) + len(RATIOS)) * "---|",
@@ -81,16 +81,16 @@ def multiplies():
 
 def wanted(times):
     if multiplies():
-        print("\nnot held: the fast engine beside liblzma, which has a carry-less multiply on this processor (pclmulqdq)")
+        print("\nnot held: fast / liblzma, which has a carry-less multiply on this processor (pclmulqdq)")
     for size, ways in times.items():
-        words = f"{size:,} bytes"
-        yield Demand(f"{words}: the fast engine's time over the plain one's", ways["fast"] / ways["plain"], "at most", 1.05)
-        if size < LONG:
-            continue
-        yield Demand(f"{words}: the fast engine's speed over C's by 8", by_eight(ways) / ways["fast"], "at least", 0.95)
-        yield Demand(f"{words}: the plain engine's speed over C's bitwise loop", loop(ways) / ways["plain"], "at least", 0.5)
+        speeds = {name: ratio(ways) for name, ratio in RATIOS.items()}
+        yield Demand(f"{size:,} bytes, time of fast / plain", 1 / speeds["fast / plain"], "at most", 1.05)
+        least = {"fast / C by 8": 0.95, "plain / C loop": 0.5}
         if not multiplies():
-            yield Demand(f"{words}: the fast engine's speed over liblzma's", ways["liblzma"] / ways["fast"], "at least", 1.5)
+            least["fast / liblzma"] = 1.5
+        if size >= LONG:
+            for name, bound in least.items():
+                yield Demand(f"{size:,} bytes, speed of {name}", speeds[name], "at least", bound)
 
 
 # The plot: speed over length. C's lines are dashed, each by the faster compiler.
@@ -111,14 +111,15 @@ def length_in_words(size):
 
 
 def plot(times):
-    speeds = {name: [(size, speed(size, time(ways))) for size, ways in times.items() if size] for name, (time, _) in LINES.items()}
     sizes = [size for size in times if size]
-    marks = [size for size in sizes if size.bit_count() == 1 and size.bit_length() % 3 == 1] or sizes
-    panel = Panel(60, sorted({sizes[0], *marks, sizes[-1]}), [y for points in speeds.values() for _, y in points])
-    parts = list(panel.frame("speed over bytes", length_in_words, lambda mbs: f"{mbs:,} MB/s" if mbs >= 1 else f"{mbs:g}"))
+    speeds = {name: [(size, speed(size, time(times[size]))) for size in sizes] for name, (time, _) in LINES.items()}
+    # a mark below at every third power of two
+    marks = [8**k for k in range(9) if sizes[0] <= 8**k <= sizes[-1]]
+    panel = Panel(sizes, [y for points in speeds.values() for _, y in points], marks=marks, wide=620)
+    parts = list(panel.frame("speed in MB/s over bytes", length_in_words, lambda power: f"{power:,}"))
     parts += [panel.line(points, *LINES[name][1]) for name, points in speeds.items()]
-    parts += legend(60, 130, {name: look for name, (_, look) in LINES.items()})
-    return svg(720, "full: the library's engines, and liblzma; dashed: C by the faster of gcc and clang", parts)
+    parts += legend({name: look for name, (_, look) in LINES.items()})
+    return svg(720, "full: the library's engines, and liblzma; dashed: C, by the faster of gcc and clang", parts)
 
 
 sys.exit(report("crc64", read, page, plot, wanted))

@@ -1,7 +1,7 @@
 /*
  * The services of the library beside the same services in plain C (bench/plain), on the same segments, in one run. The
- * library is there twice: as a caller gets it who does not choose, so by the fast engine, and by the plain engine. So is
- * the C program: its checksum takes eight bytes at a step, or one.
+ * library is there twice: as a caller gets it who does not choose, so by the fast engine, and by the plain engine. So
+ * is the C program: its checksum takes eight bytes at a step, or one.
  *
  * For each size and order it prints one line to a service: name, records, order, bytes of the segment, then for each of
  * the four, in the order of the enum below, the median, the fastest and the slowest time of a call in nanoseconds. They

@@ -54,29 +54,30 @@ def polyline(points, colour, dashed):
 
 
 class Panel:
-    """A frame for lines, both axes by powers of ten: `xs` are marked below it, `ys` only say how high it goes."""
+    """A frame for lines through points of these xs and ys, both axes by powers of ten. `marks` are the xs that are
+    named below it; if not given, all."""
 
-    WIDE, HIGH, TOP = 380, 340, 40
+    LEFT, TOP, WIDE, HIGH = 60, 40, 380, 340
 
-    def __init__(self, left, xs, ys):
-        self.left, self.xs = left, xs
+    def __init__(self, xs, ys, marks=None, left=LEFT, wide=WIDE):
+        self.marks, self.left, self.wide = xs if marks is None else marks, left, wide
         self.low, self.high = math.floor(math.log10(min(ys))), math.ceil(math.log10(max(ys)))
         self.first, self.last = math.log10(min(xs)), math.log10(max(xs))
 
     def at(self, x, y):
         right = (math.log10(x) - self.first) / (self.last - self.first)
         down = (self.high - math.log10(y)) / (self.high - self.low)
-        return self.left + self.WIDE * right, self.TOP + self.HIGH * down
+        return self.left + self.wide * right, self.TOP + self.HIGH * down
 
     def frame(self, heading, x_word, y_word):
-        left, top, right, bottom = self.left, self.TOP, self.left + self.WIDE, self.TOP + self.HIGH
-        yield f'<rect x="{left}" y="{top}" width="{self.WIDE}" height="{self.HIGH}" fill="none" stroke="#888"/>'
+        left, top, right, bottom = self.left, self.TOP, self.left + self.wide, self.TOP + self.HIGH
+        yield f'<rect x="{left}" y="{top}" width="{self.wide}" height="{self.HIGH}" fill="none" stroke="#888"/>'
         yield f'<text x="{left}" y="{top - 12}">{heading}</text>'
         for power in range(self.low, self.high + 1):
-            y = self.at(self.xs[0], 10**power)[1]
+            y = self.at(10**self.first, 10**power)[1]
             yield f'<line x1="{left}" x2="{right}" y1="{y:.1f}" y2="{y:.1f}" stroke="#ddd"/>'
             yield f'<text x="{left - 6}" y="{y + 4:.1f}" text-anchor="end">{y_word(10**power)}</text>'
-        for x in self.xs:
+        for x in self.marks:
             across = self.at(x, 10**self.low)[0]
             yield f'<text x="{across:.1f}" y="{bottom + 16}" text-anchor="middle">{x_word(x)}</text>'
 
@@ -84,11 +85,11 @@ class Panel:
         return polyline([self.at(x, y) for x, y in points], colour, dashed)
 
 
-def legend(left, step, names):
+def legend(names):
     """A short line and a name for each of `names`, which gives colour and whether it is dashed."""
     y = Panel.TOP + Panel.HIGH + 42
     for k, (name, (colour, dashed)) in enumerate(names.items()):
-        x = left + step * k
+        x = Panel.LEFT + 130 * k
         yield polyline([(x, y), (x + 30, y)], colour, dashed)
         yield f'<text x="{x + 36}" y="{y + 4}">{name}</text>'
 
@@ -96,8 +97,9 @@ def legend(left, step, names):
 def svg(width, below, parts):
     """The whole plot: `below` is the line of text under all the rest."""
     height = Panel.TOP + Panel.HIGH + 90
-    head = f'<svg xmlns="http://www.w3.org/2000/svg" width="{width}" height="{height}" font-family="sans-serif" font-size="12">'
-    return "\n".join([head, *parts, f'<text x="60" y="{height - 20}">{below}</text></svg>']) + "\n"
+    font = 'font-family="sans-serif" font-size="12"'
+    head = f'<svg xmlns="http://www.w3.org/2000/svg" width="{width}" height="{height}" {font}>'
+    return "\n".join([head, *parts, f'<text x="{Panel.LEFT}" y="{height - 20}">{below}</text></svg>']) + "\n"
 
 
 def leave(folder, name, page, plot):
@@ -107,8 +109,8 @@ def leave(folder, name, page, plot):
 
 
 def report(name, read, page, plot, wanted):
-    """The program `report.py [--hold] TIMES [FOLDER]`: prints the page, leaves it and the plot in FOLDER, and with --hold says
-    what is wanted; its status is 1 where something wanted is missed."""
+    """The program `report.py [--hold] TIMES [FOLDER]`: prints the page, leaves it and the plot in FOLDER, and with
+    --hold says what is wanted and whether it was met; its status is 1 where something was missed."""
     hold = sys.argv[1] == "--hold"
     path, *folders = sys.argv[1 + hold :]
     times = read(path)

@@ -1,14 +1,15 @@
-"""report.py [--hold] TIMES [FOLDER]: the table, and in FOLDER the table and a plot, of what `bench` measured. With --hold
-also the ratios that docs/PERFORMANCE.md wants, and status 1 where one is not met.
+"""report.py [--hold] TIMES [FOLDER]: the table, and in FOLDER the table and a plot, of what `bench` measured. With
+--hold also the ratios that docs/PERFORMANCE.md wants, and status 1 where one is not met.
 
-A line of TIMES: service, records, order, bytes, then median, fastest and slowest nanoseconds of a call of each side: the
-library as it is called by one who does not choose, by the fast engine; the library by its plain engine; the C program
-whose checksum takes one byte at a step; and that whose checksum takes eight.
+A line of TIMES: service, records, order, bytes, then median, fastest and slowest nanoseconds of a call of each side:
+the library as a caller gets it who does not choose, so by the fast engine; the library by its plain engine; the C
+program whose checksum takes one byte at a step; and that whose checksum takes eight.
 """
 import collections
 import math
 import pathlib
 import sys
+from operator import attrgetter
 
 from page import Demand, Panel, in_words, legend, report, svg, title
 
@@ -18,6 +19,8 @@ ORDERS = ("tidy", "shuffled")
 
 SIDES = LIBRARY, BY_PLAIN, BY_ONE, BY_EIGHT = range(4)
 Time = collections.namedtuple("Time", "median fastest slowest")
+# The table has medians. What is held is the fastest time: a median moves with whatever else the machine does.
+median, fastest = attrgetter("median"), attrgetter("fastest")
 
 
 def read(path):
@@ -35,15 +38,15 @@ def spread(time):
 
 
 def apart(times, case, side, of):
-    """What is left of a side's time without the checksums that the service runs. `of` says which time: Time.median, .."""
+    """What is left of a side's time without the checksums that the service runs. `of` is `median` or `fastest`."""
     service, records, order = case
     checksum = times["checksum", records, order][1][side]
-    return of.__get__(times[case][1][side]) - CHECKSUMS[service] * of.__get__(checksum)
+    return of(times[case][1][side]) - CHECKSUMS[service] * of(checksum)
 
 
 def apart_columns(times, case):
     """The library and C by 8 without their checksums, and the ratio; `-` where nothing is left to compare."""
-    library, by_eight = (apart(times, case, side, Time.median) for side in (LIBRARY, BY_EIGHT))
+    library, by_eight = (apart(times, case, side, median) for side in (LIBRARY, BY_EIGHT))
     if min(library, by_eight) <= 0:
         return ["-", "-", "-"]
     return [in_words(library), in_words(by_eight), f"{library / by_eight:.2f}"]
@@ -87,16 +90,18 @@ def memory(times):
 def growth(times, service, order, side, of):
     """How many times as long a call takes with 65,536 records as with 10,000; None, where one was not measured."""
     few, many = (times.get((service, records, order)) for records in (10000, 65536))
-    return of.__get__(many[1][side]) / of.__get__(few[1][side]) if few and many else None
+    return of(many[1][side]) / of(few[1][side]) if few and many else None
 
 
 def growths(times):
     rows = []
     for service in CHECKSUMS:
         for order in ORDERS:
-            grown = [growth(times, service, order, side, Time.median) for side in (LIBRARY, BY_PLAIN, BY_EIGHT)]
+            grown = [growth(times, service, order, side, median) for side in (LIBRARY, BY_PLAIN, BY_EIGHT)]
             if None not in grown:
-                rows.append("- {}, {}: {:.1f} times; by the plain engine {:.1f}; C by 8 {:.1f}".format(service, order, *grown))
+                library, by_plain, by_eight = grown
+                others = f"by the plain engine {by_plain:.1f}; C by 8 {by_eight:.1f}"
+                rows.append(f"- {service}, {order}: {library:.1f} times; {others}")
     return ["", "Growth of the time of a call from 10,000 to 65,536 records:", "", *rows] if rows else []
 
 
@@ -117,20 +122,17 @@ def page(times):
     )
 
 
-# What is held is the fastest time of a call: a median moves with whatever else the machine does.
-
-
 def over(times, case, ours, theirs):
-    return times[case][1][ours].fastest / times[case][1][theirs].fastest
+    return fastest(times[case][1][ours]) / fastest(times[case][1][theirs])
 
 
 def wanted_by_eight(times, case):
-    """Beside C whose checksum takes eight bytes at a step, on tidy input; with no records beside the plain engine, since
-    there is too little for the tables to pay."""
+    """Beside C whose checksum takes eight bytes at a step, on tidy input; with no records beside the plain engine,
+    since there the tables do not pay."""
     service, records, order = case
     words = f"{service}, {records:,} records, {order}"
     if service == "check":
-        library, by_eight = (apart(times, case, side, Time.fastest) for side in (LIBRARY, BY_EIGHT))
+        library, by_eight = (apart(times, case, side, fastest) for side in (LIBRARY, BY_EIGHT))
         ratio = library / by_eight if by_eight > 0 else math.inf
         yield Demand(f"{words}, apart from the checksum, beside C by 8", ratio, "at most", 1.3)
     if service in ("check", "look_up", "tidy", "write"):
@@ -155,15 +157,15 @@ def wanted_by_one(times, case):
 
 
 def wanted_growth(times):
-    """On shuffled input by the plain engine alone: what the fast one leaves there is mostly a sort, whose keys no longer fit
-    into the caches, and C's time grows more."""
+    """On shuffled input by the plain engine alone: what the fast one leaves there is mostly a sort of keys that lie far
+    apart, and with 65,536 records they do not fit into the caches."""
     for service in CHECKSUMS:
         for order, side, words in (
             ("tidy", LIBRARY, ""),
             ("tidy", BY_PLAIN, ", by the plain engine"),
             ("shuffled", BY_PLAIN, ", by the plain engine"),
         ):
-            grown = growth(times, service, order, side, Time.fastest)
+            grown = growth(times, service, order, side, fastest)
             if grown is not None:
                 yield Demand(f"{service}, {order}, from 10,000 to 65,536 records{words}", grown, "at most", 8)
 
@@ -182,7 +184,8 @@ def wanted(times):
 
 # The plot: a line for the library (full) and one for C by 8 (dashed) for each service.
 COLOURS = {
-    "check": "#0b6e4f", "look_up": "#1f5fa8", "step": "#5c6b00", "tidy_length": "#a8326e", "tidy": "#b3541e", "write": "#7a3b8f",
+    "check": "#0b6e4f", "look_up": "#1f5fa8", "step": "#5c6b00",
+    "tidy_length": "#a8326e", "tidy": "#b3541e", "write": "#7a3b8f",
 }  # fmt: skip
 
 
@@ -197,14 +200,14 @@ def plot(times):
     values = [y for *_, points in drawn for _, y in points]
     parts = []
     for number, panel_order in enumerate(ORDERS):
-        panel = Panel(60 + number * (Panel.WIDE + 50), sizes, values)
+        panel = Panel(sizes, values, left=Panel.LEFT + number * (Panel.WIDE + 50))
         parts += panel.frame(f"{panel_order}: time of a call over records", lambda records: f"{records:,}", in_words)
         parts += [
             panel.line(points, COLOURS[service], side == BY_EIGHT)
             for service, order, side, points in drawn
             if order == panel_order
         ]
-    parts += legend(60, 130, {service: (colour, False) for service, colour in COLOURS.items()})
+    parts += legend({service: (colour, False) for service, colour in COLOURS.items()})
     return svg(150 + 2 * Panel.WIDE, "full: the library; dashed: C, checksum by 8", parts)
 
 

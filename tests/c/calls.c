@@ -1,7 +1,7 @@
-// calls FIXTURES SAMPLE: calls every entry point of asl.h on every kind of answer. FIXTURES is tests/fixtures, SAMPLE
-// is samples/case-l.asl. Each call is held to its answer and to every byte of every buffer: a refused call changes
-// nothing, an answered one nothing but what it answers. The stack that they take is measured. Its last line is
-// `N passed, M failed`; where it cannot read what it is given, it says so and ends without one.
+// calls FIXTURES SAMPLE: calls every entry point of asl.h on every kind of answer, by every engine. FIXTURES is
+// tests/fixtures, SAMPLE is samples/case-l.asl. Each call is held to its answer and to every byte of every buffer: a
+// refused call changes nothing, an answered one nothing but what it answers. The stack that they take is measured. Its
+// last line is `N passed, M failed`; where it cannot read what it is given, it says so and ends without one.
 #include <pthread.h>
 
 #include "held.h"
@@ -379,7 +379,8 @@ static void declared(void) {
 
 // The checksum ------------------------------------------------------------------------------------------------------
 
-// The bytes have that checksum by every engine: whole, and in two parts, the first by one engine and the rest by the next.
+// The bytes have that checksum by every engine: whole, and in two parts, the first by one engine and the rest by
+// another.
 static void checksum(struct bytes bytes, uint64_t sum) {
     struct lent l = lend_copy(0, bytes);
     size_t first = l.size / 3, rest = l.size - first;
@@ -401,8 +402,8 @@ static void checksum(struct bytes bytes, uint64_t sum) {
     expect(kept(l, 0), CHECKSUM, "what was lent for reading changed");
 }
 
-// Published sums; and every length to 80, at whose end the wall stands, so that their beginnings have every alignment;
-// and greater lengths, from some of which on the fast engine makes its tables.
+// Published sums; every length to 80, at whose end the wall stands, so that the beginnings have every alignment; and
+// longer ones, of which some are too short for the fast engine's tables to pay and some are not.
 static void checksums(void) {
     static uint8_t many[65536 + 5];
     for (size_t i = 0; i < sizeof many; i++) many[i] = (uint8_t)(i * i >> 3 ^ i);

@@ -1,6 +1,6 @@
 // Shows that the inline functions of asl.h hand the engine on as it is, all 64 bits of it, and those that take none the
-// fast one's number. No answer of the library can show this, since it is the same by every engine; so here stand raw calls
-// in its place that keep the number. They refuse, so that nothing else is looked at.
+// fast one's number. No answer of the library can show this, since it is the same by every engine; so here stand raw
+// calls in its place that keep the number. They refuse, so that nothing else is looked at.
 #include <inttypes.h>
 #include <stdio.h>
 

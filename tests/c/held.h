@@ -163,7 +163,7 @@ static asl_answer raw_call(int service, const uint64_t *engine, const struct ask
 
 static size_t pairs_of(const struct asked *k) { return k->table.size / sizeof(asl_pair); }
 
-// Two inline functions leave a struct. It is made of the room and goes back there, so that every byte that changes shows.
+// Two inline functions leave a struct. It is made of the room and goes back there, so that each changed byte shows.
 static asl_answer inline_look_up(const uint64_t *engine, const struct asked *k, struct lent out) {
     asl_found found;
     int room = out.size >= sizeof found;

@@ -1,10 +1,11 @@
-"""compare.py FOLDER RUN..: both engines of the checksum beside three implementations of CRC-64 by others, and the numbers
-of the fast engine's tables beside tables that two of those make.
+"""compare.py FOLDER RUN..: both engines of the checksum beside three implementations of CRC-64 by others, and the
+numbers of the fast engine's tables beside tables that two of those make.
 
 FOLDER has `driver`, which is driver.c over the engines, and programs `wrong-..`, the same over engines with a mistake
 each (wrong.c). RUN are the words that stand before a program's name. An input passes when its bytes stand where they
 were asked to, and each way that driver.c has, the three others and what is published of it, if anything is, are one
-number. A wrong program passes when some input fails over it. The inputs come from SEED (a number; the default is fixed).
+number. A wrong program passes when some input fails over it. The inputs come from SEED (a number; the default is
+fixed).
 """
 
 import collections
@@ -80,7 +81,7 @@ def run(command, asked):
 
 
 def fault(case, line, sums):
-    """What is wrong with the driver's line for a case, whose checksums by the others are `sums`; nothing, if it passes."""
+    """What is wrong with the driver's line for a case whose checksums by the others are `sums`; nothing if it passes."""
     if len(line) != 1 + len(WAYS):
         return f"it says {' '.join(line) or 'nothing'}"
     if int(line[0]) != case.place:

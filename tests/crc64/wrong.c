@@ -12,16 +12,16 @@ static uint64_t turned(enum function called, uint64_t before, const uint8_t *s, 
     return MISTAKE;
 }
 
-#define WHOLE(name, called)                                   \
-    uint64_t __real_##name(const uint8_t *s, size_t n);       \
-    uint64_t __wrap_##name(const uint8_t *s, size_t n);       \
-    uint64_t __wrap_##name(const uint8_t *s, size_t n) {      \
+#define WHOLE(name, called)                                            \
+    uint64_t __real_##name(const uint8_t *s, size_t n);                \
+    uint64_t __wrap_##name(const uint8_t *s, size_t n);                \
+    uint64_t __wrap_##name(const uint8_t *s, size_t n) {               \
         return __real_##name(s, n) ^ turned(called, UINT64_MAX, s, n); \
     }
-#define ON(name, called)                                                  \
-    uint64_t __real_##name(uint64_t before, const uint8_t *s, size_t n);  \
-    uint64_t __wrap_##name(uint64_t before, const uint8_t *s, size_t n);  \
-    uint64_t __wrap_##name(uint64_t before, const uint8_t *s, size_t n) { \
+#define ON(name, called)                                                   \
+    uint64_t __real_##name(uint64_t before, const uint8_t *s, size_t n);   \
+    uint64_t __wrap_##name(uint64_t before, const uint8_t *s, size_t n);   \
+    uint64_t __wrap_##name(uint64_t before, const uint8_t *s, size_t n) {  \
         return __real_##name(before, s, n) ^ turned(called, before, s, n); \
     }
 WHOLE(crc64_plain, PLAIN)

@@ -1,6 +1,7 @@
-// A fuzz target: asks the library and bench/plain/plain.c one question, made of the input's bytes, and stops where any
-// part of their answers differs, or the call cannot answer so. plain.c is compiled with the fuzzer's counters, so its
-// branches, one for each rule, lead to new inputs. Every buffer is lent at exactly its size (lend.h).
+// A fuzz target: asks the library by each of its engines, and bench/plain/plain.c, one question, made of the input's
+// bytes, and stops where any part of their answers differs, or the call cannot answer so. The checksum of the segment
+// is asked for as well. plain.c is compiled with the fuzzer's counters, so its branches, one for each rule, lead to new
+// inputs. Every buffer is lent at exactly its size (lend.h).
 //
 // The input: a byte whose low three bits are the service, as given.h counts them (0 check, 1 look up, 2 step, 3 tidy
 // length, 4 tidy, 5 write, and from 0 again), and whose next bit makes the checksum right; a byte for the table; two
@@ -14,26 +15,26 @@
 #include "lend.h"
 
 struct services {
-    __typeof__(asl_raw_check) *check;
-    __typeof__(asl_raw_look_up) *look_up;
-    __typeof__(asl_raw_tidy) *tidy;
-    __typeof__(asl_raw_write) *write;
-    __typeof__(asl_raw_tidy_length) *tidy_length;
-    __typeof__(asl_raw_step) *step;
+    __typeof__(asl_raw_check_by) *check;
+    __typeof__(asl_raw_look_up_by) *look_up;
+    __typeof__(asl_raw_tidy_by) *tidy;
+    __typeof__(asl_raw_write_by) *write;
+    __typeof__(asl_raw_tidy_length_by) *tidy_length;
+    __typeof__(asl_raw_step_by) *step;
 };
 
-extern __typeof__(asl_raw_check) plain_check;
-extern __typeof__(asl_raw_look_up) plain_look_up;
-extern __typeof__(asl_raw_tidy) plain_tidy;
-extern __typeof__(asl_raw_write) plain_write;
-extern __typeof__(asl_raw_tidy_length) plain_tidy_length;
-extern __typeof__(asl_raw_step) plain_step;
+extern __typeof__(asl_raw_check_by) plain_check_by;
+extern __typeof__(asl_raw_look_up_by) plain_look_up_by;
+extern __typeof__(asl_raw_tidy_by) plain_tidy_by;
+extern __typeof__(asl_raw_write_by) plain_write_by;
+extern __typeof__(asl_raw_tidy_length_by) plain_tidy_length_by;
+extern __typeof__(asl_raw_step_by) plain_step_by;
 uint64_t plain_crc64(const uint8_t *bytes, size_t size);
 
-static const struct services library = {asl_raw_check, asl_raw_look_up,     asl_raw_tidy,
-                                        asl_raw_write, asl_raw_tidy_length, asl_raw_step};
-static const struct services plain = {plain_check, plain_look_up, plain_tidy, plain_write, plain_tidy_length,
-                                      plain_step};
+static const struct services library = {asl_raw_check_by, asl_raw_look_up_by,     asl_raw_tidy_by,
+                                        asl_raw_write_by, asl_raw_tidy_length_by, asl_raw_step_by};
+static const struct services plain = {plain_check_by, plain_look_up_by,     plain_tidy_by,
+                                      plain_write_by, plain_tidy_length_by, plain_step_by};
 
 enum { TABLE, SEGMENT, DIGEST, BLOOM, ENTRIES, DIGESTS, EXTENTS, OUT, SLICES };
 enum { RIGHT_CHECKSUM = 8 };
@@ -139,27 +140,29 @@ static struct question take_question(void) {
 
 // Asking --------------------------------------------------------------------------------------------------------------
 
-static asl_answer call(const struct services *to, const struct question *q) {
+static asl_answer call(const struct services *to, uint64_t engine, const struct question *q) {
     const struct slice *s = q->slices, t = s[TABLE], g = s[SEGMENT], out = s[OUT];
     switch (q->service) {
-    case CHECK: return to->check(t.at, t.size, g.at, g.size);
+    case CHECK: return to->check(engine, t.at, t.size, g.at, g.size);
     case LOOK_UP:
-        return to->look_up(t.at, t.size, g.at, g.size, q->hash_id, s[DIGEST].at, s[DIGEST].size, out.at, out.size);
-    case TIDY: return to->tidy(t.at, t.size, g.at, g.size, out.at, out.size);
+        return to->look_up(engine, t.at, t.size, g.at, g.size, q->hash_id, s[DIGEST].at, s[DIGEST].size, out.at,
+                           out.size);
+    case TIDY: return to->tidy(engine, t.at, t.size, g.at, g.size, out.at, out.size);
     case WRITE:
-        return to->write(t.at, t.size, 2, 3, 4, 5, 6, 7, s[BLOOM].at, s[BLOOM].size, s[ENTRIES].at, s[ENTRIES].size / 8,
-                         s[DIGESTS].at, s[DIGESTS].size, s[EXTENTS].at, s[EXTENTS].size / 8, out.at, out.size);
-    case TIDY_LENGTH: return to->tidy_length(t.at, t.size, g.at, g.size);
-    case STEP: return to->step(t.at, t.size, g.at, g.size, q->record, out.at, out.size);
+        return to->write(engine, t.at, t.size, 2, 3, 4, 5, 6, 7, s[BLOOM].at, s[BLOOM].size, s[ENTRIES].at,
+                         s[ENTRIES].size / 8, s[DIGESTS].at, s[DIGESTS].size, s[EXTENTS].at, s[EXTENTS].size / 8,
+                         out.at, out.size);
+    case TIDY_LENGTH: return to->tidy_length(engine, t.at, t.size, g.at, g.size);
+    case STEP: return to->step(engine, t.at, t.size, g.at, g.size, q->record, out.at, out.size);
     default: abort();
     }
 }
 
-static void ask(const struct services *to, const struct question *q, struct answer *a) {
+static void ask(const struct services *to, uint64_t engine, const struct question *q, struct answer *a) {
     struct slice out = q->slices[OUT];
     memset(a, 0x5A, sizeof *a);
     memset(out.at, 0x5A, out.size);
-    a->bits = call(to, q).bits;
+    a->bits = call(to, engine, q).bits;
     memcpy(a->out, out.at, out.size);
 }
 
@@ -197,23 +200,36 @@ static int can_answer(const struct question *q, asl_answer a) {
     return asl_which(a) == 0 && can_give(q->service, number) && can_stand_at(q, number, asl_place(a));
 }
 
+// The library by an engine beside plain.c.
+static void compare(uint64_t engine, const struct question *q, const struct answer *theirs) {
+    static struct answer ours;
+    ask(&library, engine, q, &ours);
+    if (memcmp(&ours, theirs, sizeof ours) != 0) {
+        fprintf(stderr, "%s: the library's answer by engine %d is %#llx, plain.c's %#llx, and the bytes are %s\n",
+                service_names[q->service], (int)engine, (unsigned long long)ours.bits,
+                (unsigned long long)theirs->bits,
+                memcmp(ours.out, theirs->out, sizeof ours.out) == 0 ? "the same" : "others");
+        abort();
+    }
+    struct slice segment = q->slices[SEGMENT];
+    if (asl_raw_checksum_by(engine, segment.at, segment.size) != plain_crc64(segment.at, segment.size)) {
+        fprintf(stderr, "checksum: engine %d gives another one than plain.c\n", (int)engine);
+        abort();
+    }
+}
+
 int LLVMFuzzerTestOneInput(const uint8_t *input, size_t size);
 
 int LLVMFuzzerTestOneInput(const uint8_t *input, size_t size) {
-    static struct answer ours, theirs;
+    static struct answer answer;
     rest = input;
     rest_size = size;
     struct question q = take_question();
-    ask(&library, &q, &ours);
-    ask(&plain, &q, &theirs);
-    if (memcmp(&ours, &theirs, sizeof ours) != 0) {
-        fprintf(stderr, "%s: the library's answer is %#llx, plain.c's %#llx, and the bytes are %s\n",
-                service_names[q.service], (unsigned long long)ours.bits, (unsigned long long)theirs.bits,
-                memcmp(ours.out, theirs.out, sizeof ours.out) == 0 ? "the same" : "others");
-        abort();
-    }
-    if (!can_answer(&q, (asl_answer){ours.bits})) {
-        fprintf(stderr, "%s: it has no answer %#llx\n", service_names[q.service], (unsigned long long)ours.bits);
+    ask(&plain, ASL_ENGINE_FAST, &q, &answer);
+    compare(ASL_ENGINE_FAST, &q, &answer);
+    compare(ASL_ENGINE_PLAIN, &q, &answer);
+    if (!can_answer(&q, (asl_answer){answer.bits})) {
+        fprintf(stderr, "%s: it has no answer %#llx\n", service_names[q.service], (unsigned long long)answer.bits);
         abort();
     }
     return 0;

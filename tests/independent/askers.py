@@ -1,7 +1,7 @@
 """Ways to get answers: from asl.py here, from a driver program, from a listing program.
 
 An asker takes a list of cases and gives a list of answers. In the place of an answer that never
-came stands a string that says why.
+came, or that is not the same by every engine, stands a string that says why.
 """
 
 import subprocess

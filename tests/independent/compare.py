@@ -1,5 +1,6 @@
 """Compares a program's answers with asl.py's, case by case: number, which, value and every byte
-of every slice that was lent.
+of every slice that was lent. A driver makes each call by both engines and without one, and a case
+in which these differ has failed.
 
     compare.py [--cases N] [--seed S] [--listing COMMAND] DRIVER-COMMAND...
     compare.py [--cases N] [--seed S] --self

@@ -26,9 +26,9 @@ def encode_case(case):
             + b"".join(field(data) for data in slices_of(case)))
 
 
-def encode_answer(answer):
+def encode_answer(answer, by=0):
     bits = answer.number + (answer.which << 8) + (answer.value << 16)
-    return (numbers_as_bytes([bits, len(answer.lent)])
+    return (numbers_as_bytes([by, bits, len(answer.lent)])
             + b"".join(field(data) for data in answer.lent))
 
 
@@ -73,6 +73,13 @@ class Reader:
         return case
 
     def answer(self):
-        bits, count = self.numbers(2)
+        """The next answer; or a string, where an engine answers otherwise than the call without
+        one."""
+        by, bits, count = self.numbers(3)
         lent = tuple(self.field() for _ in range(count))
-        return Answer(bits & 0xFF, bits >> 8 & 0xFF, bits >> 16, lent)
+        answer = Answer(bits & 0xFF, bits >> 8 & 0xFF, bits >> 16, lent)
+        if by == 0:
+            return answer
+        return (f"no one answer: engine {by - 1} gives number {answer.number}, which"
+                f" {answer.which}, value {answer.value}; the call without an engine gives another"
+                " answer or leaves other bytes")

@@ -117,6 +117,17 @@ class BrokenDrivers(unittest.TestCase):
         tally = driver_tally(python_command(script))
         self.assertEqual((tally.passed, tally.failed), (len(DRIVER_CASES), 1))
 
+    def test_one_whose_engines_differ(self):
+        """A case has failed in which they do, though the answer that is told is right."""
+        script = ("import asl_driver; right = asl_driver.encode_answer;"
+                  "asl_driver.encode_answer = lambda answer: right(answer, by=answer.number == 6);"
+                  "asl_driver.main()")
+        tally = driver_tally(python_command(script))
+        failing = [case for case in DRIVER_CASES if answer_of(case).number == 6]
+        self.assertGreater(len(failing), 0)
+        self.assertEqual((tally.passed, tally.failed),
+                         (len(DRIVER_CASES) + 1 - len(failing), len(failing)))
+
     def test_one_that_ends_amid_its_answers(self):
         """The case at which it ended fails, and those after it are asked again."""
         script = ("import asl_driver, sys; right = asl_driver.answer_of;"
@@ -180,8 +191,14 @@ class Protocol(unittest.TestCase):
 
     def test_all_bits_are_told(self):
         bits = 2**64 - 1 - 2**60 - 2**20 - 2**9 - 2
-        answer = Reader(io.BytesIO(struct.pack("<2Q", bits, 0))).answer()
-        self.assertEqual(encode_answer(answer), struct.pack("<2Q", bits, 0))
+        answer = Reader(io.BytesIO(struct.pack("<3Q", 0, bits, 0))).answer()
+        self.assertEqual(encode_answer(answer), struct.pack("<3Q", 0, bits, 0))
+
+    def test_an_engine_that_differs_is_no_answer(self):
+        told = encode_answer(EXPECTED[0], by=2) + encode_answer(EXPECTED[0])
+        reader = Reader(io.BytesIO(told))
+        self.assertIn("engine 1", reader.answer())
+        self.assertEqual(reader.answer(), EXPECTED[0])
 
 
 if __name__ == "__main__":

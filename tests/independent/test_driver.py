@@ -35,6 +35,11 @@ KEY_TESTED = "if (!allows(&t, hash_id, digest_size)) return refusal(ASL_REFUSED_
 FOUND_TESTED = "if (found_size < sizeof numbers) return refusal(ASL_REFUSED_ROOM, 0);"
 FIELDS_TESTED = "if (fields_size < sizeof numbers) return refusal(ASL_REFUSED_ROOM, 0);"
 DONE_TESTED = "if (record >= s.record_count) return answered(ASL_STEP_DONE);"
+CHECKSUM = "return crc64_on(engine == ASL_ENGINE_PLAIN ? 1 : 8, before, bytes, size);"
+STEP_CALLED = "NAME(step_by)(UNCHOSEN, table, table_size, segment, segment_size, record,"
+RESULT_PUT = "put_segment(out, engine, h, items, count, &p);"
+TABLE_READ = "t->pairs = 0;\n"
+LAID_OUT = "if (!asl_ok(laid_out)) return laid_out;"
 REFUSED = "return (asl_answer){number | place << 16};"
 
 # What stands once in it, and what stands in its place.
@@ -52,7 +57,7 @@ WRONG = {
         "if (p.length > out_size) return refusal(ASL_REFUSED_ROOM, p.length);"),
     "the hash id is cut": (KEY_TESTED, KEY_TESTED.replace("hash_id", "(uint32_t)hash_id")),
     "an unfinished number of the table is not read": (
-        "t->pairs = 0;\n", "t->pairs = 0;\n    size -= size % 8;\n"),
+        TABLE_READ, TABLE_READ + "    size -= size % 8;\n"),
     "check answers a value": (
         "static asl_answer accepted(void) { return answered(0); }",
         "static asl_answer accepted(void) { return answered(1); }"),
@@ -71,9 +76,20 @@ WRONG = {
         "const uint8_t *footer = segment + segment_size - FOOTER;",
         "const uint8_t *footer = segment + segment_size - FOOTER;\n"
         "    ((uint8_t *)segment)[H_SHARD] ^= 1;"),
+    "the plain engine differs on long inputs": (
+        CHECKSUM, "before ^= engine == ASL_ENGINE_PLAIN && size > 1000;\n    " + CHECKSUM),
+    "the fast engine does not look at the last eight bytes": (
+        CHECKSUM, "if (engine == ASL_ENGINE_FAST && size > 300) size -= 8;\n    " + CHECKSUM),
+    "the step without an engine gives the next record": (
+        STEP_CALLED, STEP_CALLED.replace("record,", "record + 1,")),
+    "the plain engine writes a byte beyond the result": (
+        RESULT_PUT, RESULT_PUT + "\n    if (engine == ASL_ENGINE_PLAIN && out_size > p.length)"
+                                 " out[p.length] ^= 1;"),
+    "the plain engine changes the lent segment": (
+        LAID_OUT, LAID_OUT + "\n    if (engine == ASL_ENGINE_PLAIN)"
+                             " ((uint8_t *)bytes)[H_SHARD] ^= 1;"),
 }
-READS_TOO_FAR = ("if (!asl_ok(laid_out)) return laid_out;",
-                 "if (!asl_ok(laid_out) || bytes[size] == 1) return laid_out;")
+READS_TOO_FAR = (LAID_OUT, "if (!asl_ok(laid_out) || bytes[size] == 1) return laid_out;")
 
 
 def some_cases():

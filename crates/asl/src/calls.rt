@@ -1,6 +1,4 @@
-// The entry points for C, as the library exports them; include/asl.h declares them, and wraps each so that lists are counted in items. Each
-// is total by its own checks, on numbers and slices, and returns one number: 0 or a refusal's number in the lowest byte, and from
-// the third byte on a value, or the refusal's place. Where it refuses it changes nothing. A table is lent as bytes, eight to a number.
+// The entry points for C, for a caller who does not choose an engine of the checksum: each is that of `by` with the fast one.
 ghost use mathlib.Core.Path.{_≡_};
 ghost use Rattle.segment.specs.Keys.{keyFrom};
 ghost use Rattle.segment.specs.Check.{checkOf};
@@ -11,16 +9,14 @@ ghost use Rattle.segment.specs.Write.{writeOf};
 ghost use Rattle.write.specs.Seal.{asked};
 ghost use Rattle.c_table.specs.Lent.{tableIn};
 ghost use Rattle.c_answer.specs.Boundary.{bitsOf, lengthBits, left, replyOf, replyLeft, stepLeft, headed, sealedAs};
-use answer::Verdict;
-use segment::header::Heading;
-use segment::step::Step;
+use crate::by;
 
 // The version of this interface: major, minor and patch, from the fifth, the third and the first byte on.
-pub const VERSION: u64 = 0x0000_0003_0000_0000;
+pub const VERSION: u64 = 0x0000_0003_0001_0000;
 
 #[no_mangle]
 pub extern "C" fn asl_raw_version() -> u64
-    ensures { λ r. ⌜ r ≡ 12884901888 ⌝ }
+    ensures { λ r. ⌜ r ≡ 12884967424 ⌝ }
 {
     VERSION
 }
@@ -29,15 +25,9 @@ pub extern "C" fn asl_raw_version() -> u64
 pub extern "C" fn asl_raw_check(table: &[u8], segment: &[u8]) -> u64
     ensures { λ r. ⌜ r ≡ bitsOf (checkOf (tableIn (now (table .entry))) (now (segment .entry))) 0 ⌝ }
 {
-    let numbers = c_table::numbers_in(table);
-    let count = c_table::count_in(table);
-    match check_segment::check(&numbers[..count], segment) {
-        Verdict::Accepted => 0,
-        Verdict::Refused(r) => c_answer::refuse(r),
-    }
+    by::asl_raw_check_by(by::FAST, table, segment)
 }
 
-// The answer's eight numbers go to the front of `found`, which has to have 64 bytes.
 #[no_mangle]
 pub extern "C" fn asl_raw_look_up(
     table: &[u8],
@@ -50,47 +40,29 @@ pub extern "C" fn asl_raw_look_up(
         replyLeft (replyOf (lookedUp (tableIn (now (table .entry))) (now (segment .entry)) (keyFrom «hash_id» (now (digest .entry)))))
         (now (found .entry)) ⌝ }
 {
-    let numbers = c_table::numbers_in(table);
-    let count = c_table::count_in(table);
-    let answer = look_up::look_up(&numbers[..count], segment, hash_id, digest);
-    c_answer::leave(c_answer::in_numbers(answer), found)
+    by::asl_raw_look_up_by(by::FAST, table, segment, hash_id, digest, found)
 }
 
-// The thirteen fields of a record go to the front of `fields`, which has to have 104 bytes then.
 #[no_mangle]
 pub extern "C" fn asl_raw_step(table: &[u8], segment: &[u8], at: u64, fields: &mut [u8]) -> u64
     ensures { λ r. ⌜ left r (now (fields .exit)) ≡
         stepLeft (stepped (tableIn (now (table .entry))) (now (segment .entry)) at) (now (fields .entry)) ⌝ }
 {
-    let numbers = c_table::numbers_in(table);
-    let count = c_table::count_in(table);
-    match walk::step_from(&numbers[..count], segment, at as usize) {
-        Step::Row(r) => {
-            let values = c_answer::record_numbers(r);
-            c_answer::give(1, &values[..13], fields)
-        }
-        Step::Done => c_answer::bits(0, 2),
-        Step::Refused(r) => c_answer::refuse(r),
-    }
+    by::asl_raw_step_by(by::FAST, table, segment, at, fields)
 }
 
 #[no_mangle]
 pub extern "C" fn asl_raw_tidy_length(table: &[u8], segment: &[u8]) -> u64
     ensures { λ r. ⌜ r ≡ lengthBits (tidyLengthOf (tableIn (now (table .entry))) (now (segment .entry))) ⌝ }
 {
-    let numbers = c_table::numbers_in(table);
-    let count = c_table::count_in(table);
-    c_answer::settle(tidy_length::tidy_length(&numbers[..count], segment))
+    by::asl_raw_tidy_length_by(by::FAST, table, segment)
 }
 
 #[no_mangle]
 pub extern "C" fn asl_raw_tidy(table: &[u8], segment: &[u8], out: &mut [u8]) -> u64
     ensures { λ r. ⌜ left r (now (out .exit)) ≡ sealedAs (tidyOf (tableIn (now (table .entry))) (now (segment .entry)) (now (out .entry))) ⌝ }
 {
-    let numbers = c_table::numbers_in(table);
-    let count = c_table::count_in(table);
-    let answer = tidy::tidy(&numbers[..count], segment, out);
-    c_answer::settle(answer)
+    by::asl_raw_tidy_by(by::FAST, table, segment, out)
 }
 
 #[no_mangle]
@@ -114,24 +86,19 @@ pub extern "C" fn asl_raw_write(
         (now (bloom .entry)) (now (entries .entry)) (now (digests .entry)) (now (extents .entry)))
         (now (out .entry))) ⌝ }
 {
-    let numbers = c_table::numbers_in(table);
-    let count = c_table::count_in(table);
-    let heading = Heading {
+    by::asl_raw_write_by(
+        by::FAST,
+        table,
         shard,
         snapshot_min,
         snapshot_max,
         domain,
         seal_snapshot,
         seal_time,
-    };
-    let answer = write::write(
-        &numbers[..count],
-        heading,
         bloom,
         entries,
         digests,
         extents,
         out,
-    );
-    c_answer::settle(answer)
+    )
 }

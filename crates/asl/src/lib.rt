@@ -1,6 +1,8 @@
-// The library. Its interface for Rattle, gathered here: check, look up, write, tidy and its length, the walk, and what they take and answer; and
-// the entry points for C, in `calls`.
+// The library. Its interface for Rattle, gathered here: check, look up, write, tidy and its length, the walk, the checksum, and what they take and
+// answer, each also by the engine of the checksum that a caller asks for (`.._by`); and the entry points for C, in `calls`, `by` and `sum`.
+pub mod by;
 pub mod calls;
+pub mod sum;
 
 pub use answer::Found;
 pub use answer::Refusal;
@@ -11,8 +13,16 @@ pub use answer::Written;
 pub use answer_number::number;
 pub use answer_number::place;
 pub use check_segment::check;
+pub use check_segment::check_by;
+pub use checksum::Engine;
+pub use checksum::checksum;
+pub use checksum::checksum_by;
+pub use checksum::checksum_on;
+pub use checksum::checksum_on_by;
 pub use look_up::look_up;
+pub use look_up::look_up_by;
 pub use look_up_extents::extents_of;
+pub use look_up_extents::extents_of_by;
 pub use offset::FileOffset;
 pub use segment::header::Heading;
 pub use segment::record::Record;
@@ -21,9 +31,13 @@ pub use table_pairs::Length;
 pub use table_pairs::Pair;
 pub use table_pairs::length_in;
 pub use tidy::tidy;
+pub use tidy::tidy_by;
 pub use tidy_length::tidy_length;
+pub use tidy_length::tidy_length_by;
 pub use walk::Walker;
 pub use walk::next;
 pub use walk::start;
 pub use walk::step_from;
+pub use walk::step_from_by;
 pub use write::write;
+pub use write::write_by;

@@ -10,6 +10,7 @@ ghost use Rattle.check_header.specs.HeaderRules.{headerRules};
 use answer::Refusal;
 use answer::Rule;
 use answer::Verdict;
+use checksum::Engine;
 use field_frame::footer;
 use field_frame::header as fields;
 use offset::FileOffset;
@@ -124,13 +125,13 @@ pub fn check_header(sh: Shape, h: Header, n: u64) -> Verdict
     check_layout(sh, h, n)
 }
 
-pub fn check_checksum(seg: &[u8]) -> Verdict
+pub fn check_checksum(by: Engine, seg: &[u8]) -> Verdict
     requires { ⌜ footerSize ≤ length (now seg) ⌝ }
     ensures { λ r. ⌜ r ≡ checksumVerdict (now (seg .entry)) ⌝ }
 {
     let end = seg.len() - Footer::SIZE;
     let stored = footer::checksum(seg, FileOffset(end as u64));
-    if crc64::crc64_plain(&seg[..end]) != stored {
+    if checksum::checksum_by(by, &seg[..end]) != stored {
         return Verdict::Refused(Refusal(Rule::Checksum, 0));
     }
     Verdict::Accepted

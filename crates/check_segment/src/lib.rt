@@ -12,6 +12,7 @@ use answer::Refusal;
 use answer::Rule;
 use answer::Verdict;
 use check_records::Passed;
+use checksum::Engine;
 use key::Kind;
 use segment::footer::Footer;
 use segment::header::Header;
@@ -46,11 +47,11 @@ fn check_contents(sh: Shape, pairs: &[u64], seg: &[u8], h: Header) -> Verdict
 }
 
 // The checksum, and then the contents.
-fn check_body(sh: Shape, pairs: &[u64], seg: &[u8], h: Header) -> Verdict
+fn check_body(by: Engine, sh: Shape, pairs: &[u64], seg: &[u8], h: Header) -> Verdict
     requires { ⌜ Laid sh (now seg) h ⌝ }
     ensures { λ r. ⌜ r ≡ bodyRules sh (now (pairs .entry)) (now (seg .entry)) h ⌝ }
 {
-    match check_header::check_checksum(seg) {
+    match check_header::check_checksum(by, seg) {
         Verdict::Refused(r) => {
             return Verdict::Refused(r);
         }
@@ -59,7 +60,7 @@ fn check_body(sh: Shape, pairs: &[u64], seg: &[u8], h: Header) -> Verdict
     check_contents(sh, pairs, seg, h)
 }
 
-fn check_rules(sh: Shape, pairs: &[u64], seg: &[u8], h: Header) -> Verdict
+fn check_rules(by: Engine, sh: Shape, pairs: &[u64], seg: &[u8], h: Header) -> Verdict
     requires { ⌜ Shaped sh ⌝ }
     requires { ⌜ length (now seg) ≤ fileLimit ⌝ }
     ensures { λ r. ⌜ r ≡ segmentRules sh (now (pairs .entry)) (now (seg .entry)) h ⌝ }
@@ -70,11 +71,11 @@ fn check_rules(sh: Shape, pairs: &[u64], seg: &[u8], h: Header) -> Verdict
         }
         Verdict::Accepted => {}
     }
-    check_body(sh, pairs, seg, h)
+    check_body(by, sh, pairs, seg, h)
 }
 
 // Everything but the table.
-pub fn check_segment(pairs: &[u64], seg: &[u8]) -> Verdict
+pub fn check_segment(by: Engine, pairs: &[u64], seg: &[u8]) -> Verdict
     ensures { λ r. ⌜ r ≡ segmentVerdict v3 (now (pairs .entry)) (now (seg .entry)) ⌝ }
 {
     if seg.len() < LEAST {
@@ -83,10 +84,10 @@ pub fn check_segment(pairs: &[u64], seg: &[u8]) -> Verdict
     if LIMIT < seg.len() {
         return Verdict::Refused(Refusal(Rule::Size, 0));
     }
-    check_rules(Shape::V3, pairs, seg, Header::of(seg))
+    check_rules(by, Shape::V3, pairs, seg, Header::of(seg))
 }
 
-pub fn check(pairs: &[u64], seg: &[u8]) -> Verdict
+pub fn check_by(by: Engine, pairs: &[u64], seg: &[u8]) -> Verdict
     ensures { λ r. ⌜ checkAnswer r ≡ checkOf (now (pairs .entry)) (now (seg .entry)) ⌝ }
 {
     if !table::good(pairs) {
@@ -94,5 +95,11 @@ pub fn check(pairs: &[u64], seg: &[u8]) -> Verdict
     }
     let numbers = table::copied(pairs);
     let count = pairs.len();
-    check_segment(&numbers[..count], seg)
+    check_segment(by, &numbers[..count], seg)
+}
+
+pub fn check(pairs: &[u64], seg: &[u8]) -> Verdict
+    ensures { λ r. ⌜ checkAnswer r ≡ checkOf (now (pairs .entry)) (now (seg .entry)) ⌝ }
+{
+    check_by(Engine::Fast, pairs, seg)
 }

@@ -14,6 +14,7 @@ use answer::Refusal;
 use answer::Rule;
 use answer::Source;
 use answer::Verdict;
+use checksum::Engine;
 use key::Kind;
 use key::head::Head;
 use segment::header::Header;
@@ -80,14 +81,14 @@ fn find(sh: Shape, seg: &[u8], hash: u64, digest: &[u8]) -> Found
 }
 
 // Everything but the table.
-fn look_up_under(pairs: &[u64], seg: &[u8], hash: u64, digest: &[u8]) -> Found
+fn look_up_under(by: Engine, pairs: &[u64], seg: &[u8], hash: u64, digest: &[u8]) -> Found
     requires { ⌜ goodTable (now pairs) ≡ true ⌝ }
     ensures { λ r. ⌜ r ≡ foundUnder (now (pairs .entry)) (now (seg .entry)) (keyFrom hash (now (digest .entry))) ⌝ }
 {
     if !table::allows(pairs, hash, digest.len() as u64) {
         return Found::Refused(Refusal(Rule::Key, 0));
     }
-    match check_segment::check_segment(pairs, seg) {
+    match check_segment::check_segment(by, pairs, seg) {
         Verdict::Refused(r) => {
             return Found::Refused(r);
         }
@@ -96,7 +97,7 @@ fn look_up_under(pairs: &[u64], seg: &[u8], hash: u64, digest: &[u8]) -> Found
     find(Shape::V3, seg, hash, digest)
 }
 
-pub fn look_up(pairs: &[u64], seg: &[u8], hash: u64, digest: &[u8]) -> Found
+pub fn look_up_by(by: Engine, pairs: &[u64], seg: &[u8], hash: u64, digest: &[u8]) -> Found
     ensures { λ r. ⌜ foundAnswer r ≡ lookUpOf (now (pairs .entry)) (now (seg .entry)) (keyFrom hash (now (digest .entry))) ⌝ }
 {
     if !table::good(pairs) {
@@ -104,5 +105,11 @@ pub fn look_up(pairs: &[u64], seg: &[u8], hash: u64, digest: &[u8]) -> Found
     }
     let numbers = table::copied(pairs);
     let count = pairs.len();
-    look_up_under(&numbers[..count], seg, hash, digest)
+    look_up_under(by, &numbers[..count], seg, hash, digest)
+}
+
+pub fn look_up(pairs: &[u64], seg: &[u8], hash: u64, digest: &[u8]) -> Found
+    ensures { λ r. ⌜ foundAnswer r ≡ lookUpOf (now (pairs .entry)) (now (seg .entry)) (keyFrom hash (now (digest .entry))) ⌝ }
+{
+    look_up_by(Engine::Fast, pairs, seg, hash, digest)
 }

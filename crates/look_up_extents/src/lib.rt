@@ -6,6 +6,7 @@ ghost use lib.ListN.{length, take, drop};
 ghost use Rattle.segment.specs.Keys.{keyFrom};
 ghost use Rattle.segment.specs.LookUp.{lookedUp, extentsPart};
 use answer::Found;
+use checksum::Engine;
 use offset::FileOffset;
 use segment::extent::Extent;
 
@@ -20,11 +21,17 @@ fn cut(seg: &[u8], start: FileOffset, size: usize) -> &[u8]
 }
 
 // The extents of the record that look up finds present: none, where it answers anything else.
-pub fn extents_of<'a>(pairs: &[u64], seg: &'a [u8], hash: u64, digest: &[u8]) -> &'a [u8]
+pub fn extents_of_by<'a>(
+    by: Engine,
+    pairs: &[u64],
+    seg: &'a [u8],
+    hash: u64,
+    digest: &[u8],
+) -> &'a [u8]
     ensures { λ r. ⌜ now r ≡
         extentsPart (lookedUp (now (pairs .entry)) (now (seg .entry)) (keyFrom hash (now (digest .entry)))) (now (seg .entry)) ⌝ }
 {
-    match look_up::look_up(pairs, seg, hash, digest) {
+    match look_up::look_up_by(by, pairs, seg, hash, digest) {
         Found::Absent => cut(seg, FileOffset(0), 0),
         Found::Gone {
             visibility,
@@ -41,4 +48,11 @@ pub fn extents_of<'a>(pairs: &[u64], seg: &'a [u8], hash: u64, digest: &[u8]) ->
         } => cut(seg, start, Extent::SIZE * (count as usize)),
         Found::Refused(r) => cut(seg, FileOffset(0), 0),
     }
+}
+
+pub fn extents_of<'a>(pairs: &[u64], seg: &'a [u8], hash: u64, digest: &[u8]) -> &'a [u8]
+    ensures { λ r. ⌜ now r ≡
+        extentsPart (lookedUp (now (pairs .entry)) (now (seg .entry)) (keyFrom hash (now (digest .entry)))) (now (seg .entry)) ⌝ }
+{
+    extents_of_by(Engine::Fast, pairs, seg, hash, digest)
 }

@@ -12,6 +12,7 @@ ghost use Rattle.put_form.specs.Emit.{Moderate, headerFor, Plan, section
 use answer::Refusal;
 use answer::Rule;
 use answer::Written;
+use checksum::Engine;
 use key::Kind;
 use offset::FileOffset;
 use put_item::Sizes;
@@ -109,6 +110,7 @@ fn put_body(
 
 // The whole form, into an output that is as long as it.
 fn put_form(
+    by: Engine,
     sh: Shape,
     t: Heading,
     h: Header,
@@ -130,7 +132,7 @@ fn put_form(
 {
     put_body(sh, h, bloom, used, kind, bytes, list, extents, numbers, out);
     let body = out.len() - Footer::SIZE;
-    let checksum = crc64::crc64_plain(&out[..body]);
+    let checksum = checksum::checksum_by(by, &out[..body]);
     let f = Footer {
         checksum,
         seal_snapshot: t.seal_snapshot,
@@ -142,6 +144,7 @@ fn put_form(
 // The form of the items in the order of their numbers, if it keeps to the limit and fits; else the output is left alone.
 // Bloom bytes that pass the limit by themselves are refused first, so that no sum below overflows.
 pub fn emit(
+    by: Engine,
     sh: Shape,
     t: Heading,
     bloom: &[u8],
@@ -174,6 +177,7 @@ pub fn emit(
     }
     let end = n as usize;
     put_form(
+        by,
         sh,
         t,
         h,

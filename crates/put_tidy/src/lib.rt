@@ -8,6 +8,7 @@ ghost use Rattle.segment.specs.Shapes.{Shaped};
 ghost use Rattle.put_form.specs.Emit.{Emitted};
 ghost use Rattle.put_tidy.specs.ItemsForm.{AllLines, itemsForm};
 use answer::Written;
+use checksum::Engine;
 use key::Kind;
 use segment::header::Heading;
 use segment::shape::Shape;
@@ -17,6 +18,7 @@ const MOST: usize = segment::MOST_RECORDS as usize;
 
 // As many items as there are numbers, written in tidy order.
 fn arrange(
+    by: Engine,
     sh: Shape,
     t: Heading,
     bloom: &[u8],
@@ -39,11 +41,12 @@ fn arrange(
         (now (out .entry)) (now (out .exit)) r ⌝ }
 {
     key_sort::sorted(kind, bytes, list, hints, numbers, spare);
-    put_form::emit(sh, t, bloom, kind, bytes, list, extents, numbers, out)
+    put_form::emit(by, sh, t, bloom, kind, bytes, list, extents, numbers, out)
 }
 
 // With hints and numbers for 256 items.
 fn arrange_few(
+    by: Engine,
     sh: Shape,
     t: Heading,
     bloom: &[u8],
@@ -64,6 +67,7 @@ fn arrange_few(
     let mut numbers = [0u16; 256];
     let mut spare = [0u16; 256];
     arrange(
+        by,
         sh,
         t,
         bloom,
@@ -80,6 +84,7 @@ fn arrange_few(
 
 // With hints and numbers for as many items as a segment can have.
 fn arrange_many(
+    by: Engine,
     sh: Shape,
     t: Heading,
     bloom: &[u8],
@@ -100,6 +105,7 @@ fn arrange_many(
     let mut numbers = [0u16; MOST];
     let mut spare = [0u16; MOST];
     arrange(
+        by,
         sh,
         t,
         bloom,
@@ -116,6 +122,7 @@ fn arrange_many(
 
 // The tidy form of n items, if it keeps to the limit and fits the output; else the output is left alone.
 pub fn put_tidy(
+    by: Engine,
     sh: Shape,
     t: Heading,
     bloom: &[u8],
@@ -133,7 +140,7 @@ pub fn put_tidy(
         (now (out .entry)) (now (out .exit)) r ⌝ }
 {
     if n <= 256 {
-        return arrange_few(sh, t, bloom, kind, bytes, list, extents, n, out);
+        return arrange_few(by, sh, t, bloom, kind, bytes, list, extents, n, out);
     }
-    arrange_many(sh, t, bloom, kind, bytes, list, extents, n, out)
+    arrange_many(by, sh, t, bloom, kind, bytes, list, extents, n, out)
 }

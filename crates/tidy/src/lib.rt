@@ -13,6 +13,7 @@ use answer::Refusal;
 use answer::Rule;
 use answer::Verdict;
 use answer::Written;
+use checksum::Engine;
 use key::Kind;
 use offset::FileOffset;
 use segment::footer::Footer;
@@ -37,12 +38,12 @@ fn heading_of(seg: &[u8], h: Header) -> Heading
 }
 
 // Everything but the table. Records are read from the segment alone.
-fn tidy_under(pairs: &[u64], seg: &[u8], out: &mut [u8]) -> Written
+fn tidy_under(by: Engine, pairs: &[u64], seg: &[u8], out: &mut [u8]) -> Written
     requires { ⌜ goodTable (now pairs) ≡ true ⌝ }
     ensures { λ r. ⌜ EmittedAfter (segmentVerdict v3 (now (pairs .entry)) (now (seg .entry))) (tidyForm v3 (meaningOf v3 (now (seg .entry))))
         (now (out .entry)) (now (out .exit)) r ⌝ }
 {
-    match check_segment::check_segment(pairs, seg) {
+    match check_segment::check_segment(by, pairs, seg) {
         Verdict::Refused(x) => {
             return Written::Refused(x);
         }
@@ -55,6 +56,7 @@ fn tidy_under(pairs: &[u64], seg: &[u8], out: &mut [u8]) -> Written
     let records = Kind::Records(first, Shape::V3);
     let n = h.record_count as usize;
     put_tidy::put_tidy(
+        by,
         Shape::V3,
         t,
         &seg[Header::SIZE..end],
@@ -68,7 +70,7 @@ fn tidy_under(pairs: &[u64], seg: &[u8], out: &mut [u8]) -> Written
 }
 
 // A refused call leaves the output as it was; bytes after the result stay.
-pub fn tidy(pairs: &[u64], seg: &[u8], out: &mut [u8]) -> Written
+pub fn tidy_by(by: Engine, pairs: &[u64], seg: &[u8], out: &mut [u8]) -> Written
     ensures { λ r. ⌜ outcome r (now (out .exit)) ≡ tidyOf (now (pairs .entry)) (now (seg .entry)) (now (out .entry)) ⌝ }
 {
     if !table::good(pairs) {
@@ -76,5 +78,11 @@ pub fn tidy(pairs: &[u64], seg: &[u8], out: &mut [u8]) -> Written
     }
     let numbers = table::copied(pairs);
     let count = pairs.len();
-    tidy_under(&numbers[..count], seg, out)
+    tidy_under(by, &numbers[..count], seg, out)
+}
+
+pub fn tidy(pairs: &[u64], seg: &[u8], out: &mut [u8]) -> Written
+    ensures { λ r. ⌜ outcome r (now (out .exit)) ≡ tidyOf (now (pairs .entry)) (now (seg .entry)) (now (out .entry)) ⌝ }
+{
+    tidy_by(Engine::Fast, pairs, seg, out)
 }

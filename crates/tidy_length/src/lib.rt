@@ -13,6 +13,7 @@ use answer::Refusal;
 use answer::Rule;
 use answer::Verdict;
 use answer::Written;
+use checksum::Engine;
 use segment::extent::Extent;
 use segment::footer::Footer;
 use segment::header::Header;
@@ -52,11 +53,11 @@ fn length_of(sh: Shape, seg: &[u8], h: Header) -> u64
 }
 
 // Everything but the table.
-fn length_under(pairs: &[u64], seg: &[u8]) -> Written
+fn length_under(by: Engine, pairs: &[u64], seg: &[u8]) -> Written
     requires { ⌜ goodTable (now pairs) ≡ true ⌝ }
     ensures { λ r. ⌜ r ≡ sizedUnder (now (pairs .entry)) (now (seg .entry)) ⌝ }
 {
-    match check_segment::check_segment(pairs, seg) {
+    match check_segment::check_segment(by, pairs, seg) {
         Verdict::Refused(x) => {
             return Written::Refused(x);
         }
@@ -69,7 +70,7 @@ fn length_under(pairs: &[u64], seg: &[u8]) -> Written
     Written::Done(n)
 }
 
-pub fn tidy_length(pairs: &[u64], seg: &[u8]) -> Written
+pub fn tidy_length_by(by: Engine, pairs: &[u64], seg: &[u8]) -> Written
     ensures { λ r. ⌜ writtenAnswer r ≡ tidyLengthOf (now (pairs .entry)) (now (seg .entry)) ⌝ }
 {
     if !table::good(pairs) {
@@ -77,5 +78,11 @@ pub fn tidy_length(pairs: &[u64], seg: &[u8]) -> Written
     }
     let numbers = table::copied(pairs);
     let count = pairs.len();
-    length_under(&numbers[..count], seg)
+    length_under(by, &numbers[..count], seg)
+}
+
+pub fn tidy_length(pairs: &[u64], seg: &[u8]) -> Written
+    ensures { λ r. ⌜ writtenAnswer r ≡ tidyLengthOf (now (pairs .entry)) (now (seg .entry)) ⌝ }
+{
+    tidy_length_by(Engine::Fast, pairs, seg)
 }

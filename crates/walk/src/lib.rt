@@ -1,6 +1,7 @@
 // The walk: a segment's records, handed out one at a time. A walker is a thin struct over the steps of `crates/walk_step`.
 ghost use mathlib.Core.Path.{_≡_};
 ghost use Rattle.segment.specs.Walk.{nextPlace, stepAnswer, stepOf};
+use checksum::Engine;
 use segment::step::Step;
 
 // A walk remembers only the segment and its place in it, the number of the record that comes next.
@@ -27,10 +28,16 @@ pub fn next<'s, 'a, 't>(w: &'s mut Walker<'a>, pairs: &'t [u64]) -> Step
     t.step
 }
 
-// The step at a place, for a caller that keeps no walk: a walker that is made there takes it.
+// The step at a place, for a caller that keeps no walk.
+pub fn step_from_by(by: Engine, pairs: &[u64], segment: &[u8], at: usize) -> Step
+    ensures { λ r. ⌜ stepAnswer r ≡ stepOf (now (pairs .entry)) (now (segment .entry)) at ⌝ }
+{
+    let t = walk_step::turn_by(by, pairs, segment, at);
+    t.step
+}
+
 pub fn step_from(pairs: &[u64], segment: &[u8], at: usize) -> Step
     ensures { λ r. ⌜ stepAnswer r ≡ stepOf (now (pairs .entry)) (now (segment .entry)) at ⌝ }
 {
-    let mut w = Walker { segment, at };
-    next(&mut w, pairs)
+    step_from_by(Engine::Fast, pairs, segment, at)
 }

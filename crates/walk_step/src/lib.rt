@@ -4,6 +4,7 @@ ghost use mathlib.Core.Path.{_≡_};
 ghost use Rattle.segment.specs.Walk.{stepped};
 ghost use Rattle.walk_step.specs.Steps.{turnOf};
 use answer::Verdict;
+use checksum::Engine;
 use segment::header::Header;
 use segment::record;
 use segment::shape::Shape;
@@ -16,10 +17,10 @@ pub struct Turn {
 }
 
 // The record at a place of an accepted segment.
-fn step_at(pairs: &[u64], segment: &[u8], at: usize) -> Step
+fn step_at(by: Engine, pairs: &[u64], segment: &[u8], at: usize) -> Step
     ensures { λ r. ⌜ r ≡ stepped (now (pairs .entry)) (now (segment .entry)) at ⌝ }
 {
-    match check_segment::check(pairs, segment) {
+    match check_segment::check_by(by, pairs, segment) {
         Verdict::Refused(r) => {
             return Step::Refused(r);
         }
@@ -35,13 +36,19 @@ fn step_at(pairs: &[u64], segment: &[u8], at: usize) -> Step
 }
 
 // A step with the place after it: one on after a record, else the same.
-pub fn turn_at(pairs: &[u64], segment: &[u8], at: usize) -> Turn
+pub fn turn_by(by: Engine, pairs: &[u64], segment: &[u8], at: usize) -> Turn
     ensures { λ r. ⌜ r ≡ turnOf (now (pairs .entry)) (now (segment .entry)) at ⌝ }
 {
-    let step = step_at(pairs, segment, at);
+    let step = step_at(by, pairs, segment, at);
     match step {
         Step::Row(_) => Turn { step, at: at + 1 },
         Step::Done => Turn { step, at },
         Step::Refused(_) => Turn { step, at },
     }
+}
+
+pub fn turn_at(pairs: &[u64], segment: &[u8], at: usize) -> Turn
+    ensures { λ r. ⌜ r ≡ turnOf (now (pairs .entry)) (now (segment .entry)) at ⌝ }
+{
+    turn_by(Engine::Fast, pairs, segment, at)
 }

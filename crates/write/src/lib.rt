@@ -12,6 +12,7 @@ use answer::Refusal;
 use answer::Rule;
 use answer::Verdict;
 use answer::Written;
+use checksum::Engine;
 use key::Kind;
 use segment::entry::Entry;
 use segment::header::Heading;
@@ -19,6 +20,7 @@ use segment::shape::Shape;
 
 // Everything but the table.
 fn write_under(
+    by: Engine,
     pairs: &[u64],
     t: Heading,
     bloom: &[u8],
@@ -41,6 +43,7 @@ fn write_under(
     }
     let n = entries.len() / Entry::SIZE;
     put_tidy::put_tidy(
+        by,
         Shape::V3,
         t,
         bloom,
@@ -55,7 +58,8 @@ fn write_under(
 
 // The entries are nine numbers each, in the order of `segment::entry::Entry`, the extents three: block, offset, length. A refused
 // call leaves the output as it was; bytes after the result stay.
-pub fn write(
+pub fn write_by(
+    by: Engine,
     pairs: &[u64],
     t: Heading,
     bloom: &[u8],
@@ -73,5 +77,39 @@ pub fn write(
     }
     let numbers = table::copied(pairs);
     let count = pairs.len();
-    write_under(&numbers[..count], t, bloom, entries, digests, extents, out)
+    write_under(
+        by,
+        &numbers[..count],
+        t,
+        bloom,
+        entries,
+        digests,
+        extents,
+        out,
+    )
+}
+
+pub fn write(
+    pairs: &[u64],
+    t: Heading,
+    bloom: &[u8],
+    entries: &[u64],
+    digests: &[u8],
+    extents: &[u64],
+    out: &mut [u8],
+) -> Written
+    ensures { λ r. ⌜ outcome r (now (out .exit)) ≡ writeOf (now (pairs .entry))
+        (asked t (now (bloom .entry)) (now (entries .entry)) (now (digests .entry)) (now (extents .entry)))
+        (now (out .entry)) ⌝ }
+{
+    write_by(
+        Engine::Fast,
+        pairs,
+        t,
+        bloom,
+        entries,
+        digests,
+        extents,
+        out,
+    )
 }

@@ -19,4 +19,4 @@ put-form-spec =
     (λ c κs. let put = c .before .before .before .before .before in let start = put .before .before .before .before .before .before .before .before in let a = start .args in omega (arith, body-room _ (start .pre .1 .0) (a .t) (a .h) (a .bloom .now) _ _ (a .out .now) (start .pre .1 .1 .0) (start .pre .1 .1 .1) _ (put .put-body .ensures)))
     (λ c. search needs)
     (λ c. let ended = c .before .before in let summed = ended .before .before in let put = summed .before .before .before .before in let start = put .before .before .before .before .before .before .before .before in let a = start .args in
-    form-done _ (start .pre .1 .0) (a .t) (a .h) (a .bloom .now) _ _ (a .out .now) (start .pre .1 .1 .0) (start .pre .1 .1 .1) _ (put .put-body .ensures) _ _ (summed .crc64-plain .ensures) (ended .put-footer .ensures)))
+    form-done _ (start .pre .1 .0) (a .t) (a .h) (a .bloom .now) _ _ (a .out .now) (start .pre .1 .1 .0) (start .pre .1 .1 .1) _ (put .put-body .ensures) _ _ (summed .«checksum-by» .ensures) (ended .put-footer .ensures)))

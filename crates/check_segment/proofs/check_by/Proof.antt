@@ -1,4 +1,4 @@
--- `check_segment::check` meets its contract: the table, and then the segment under the copied table.
+-- `check_segment::check_by` meets its contract: the table, and then the segment under the copied table.
 use mathlib.Core.Path.{_≡_}
 use mathlib.Core.Bool.{true}
 use borrow.Author.Needs.{needs}
@@ -7,14 +7,14 @@ use Rattle.lists.proofs.Tests.{was-true, was-false}
 use Rattle.table.specs.Table.{goodTable}
 use Rattle.table.proofs.Pairs.{sized, in-front, front-is, front-long}
 use Rattle.check_segment.proofs.SegmentOrder.{table-bad, table-good}
-use Rattle.check_segment.proofs.check.Statement.{statement}
-use Rattle.check_segment.proofs.check.Tie as tie
+use Rattle.check_segment.proofs.check_by.Statement.{statement}
+use Rattle.check_segment.proofs.check_by.Tie as tie
 
 good : (c : tie.Else1) → goodTable (c .before .before .before .before .args .pairs .now) ≡ true
 good c = was-true (c .before .good2 .ensures) (c .if1 .left)
 
-pub check-spec : {M : Type 1} → statement M
-check-spec =
+pub check-by-spec : {M : Type 1} → statement M
+check-by-spec =
     tie.close
     (tie.spec
     (λ c κs. search needs)

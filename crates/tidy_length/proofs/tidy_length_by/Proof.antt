@@ -1,4 +1,4 @@
--- `tidy_length::tidy_length` meets its contract: the table, and then the length under the copied table.
+-- `tidy_length::tidy_length_by` meets its contract: the table, and then the length under the copied table.
 use mathlib.Core.Path.{_≡_, ap, _∙_}
 use mathlib.Core.Bool.{true}
 use borrow.Author.Needs.{needs}
@@ -7,14 +7,14 @@ use Rattle.lists.proofs.Tests.{was-true, was-false}
 use Rattle.table.specs.Table.{goodTable}
 use Rattle.table.proofs.Pairs.{sized, in-front, front-is, front-long}
 use Rattle.tidy_length.proofs.Summing.{table-bad, table-good}
-use Rattle.tidy_length.proofs.tidy_length.Statement.{statement}
-use Rattle.tidy_length.proofs.tidy_length.Tie as tie
+use Rattle.tidy_length.proofs.tidy_length_by.Statement.{statement}
+use Rattle.tidy_length.proofs.tidy_length_by.Tie as tie
 
 good : (c : tie.Else1) → goodTable (c .before .before .before .before .args .pairs .now) ≡ true
 good c = was-true (c .before .good2 .ensures) (c .if1 .left)
 
-pub tidy-length-spec : {M : Type 1} → statement M
-tidy-length-spec =
+pub tidy-length-by-spec : {M : Type 1} → statement M
+tidy-length-by-spec =
     tie.close
     (tie.spec
     (λ c κs. search needs)

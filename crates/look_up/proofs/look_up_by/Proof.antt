@@ -1,4 +1,4 @@
--- `look_up::look_up` meets its contract: the table, and then the rest under the copied table.
+-- `look_up::look_up_by` meets its contract: the table, and then the rest under the copied table.
 use mathlib.Core.Path.{_≡_, ap, _∙_}
 use mathlib.Core.Bool.{true}
 use borrow.Author.Needs.{needs}
@@ -7,14 +7,14 @@ use Rattle.lists.proofs.Tests.{was-true, was-false}
 use Rattle.table.specs.Table.{goodTable}
 use Rattle.table.proofs.Pairs.{sized, in-front, front-is, front-long}
 use Rattle.look_up.proofs.Finding.{table-bad, table-good}
-use Rattle.look_up.proofs.look_up.Statement.{statement}
-use Rattle.look_up.proofs.look_up.Tie as tie
+use Rattle.look_up.proofs.look_up_by.Statement.{statement}
+use Rattle.look_up.proofs.look_up_by.Tie as tie
 
 good : (c : tie.Else1) → goodTable (c .before .before .before .before .before .args .pairs .now) ≡ true
 good c = was-true (c .before .good2 .ensures) (c .if1 .left)
 
-pub look-up-spec : {M : Type 1} → statement M
-look-up-spec =
+pub look-up-by-spec : {M : Type 1} → statement M
+look-up-by-spec =
     tie.close
     (tie.spec
     (λ c κs. search needs)

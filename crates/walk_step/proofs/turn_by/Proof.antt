@@ -1,12 +1,12 @@
--- `walk_step::turn_at` meets its contract: the answer's case says the place after it.
+-- `walk_step::turn_by` meets its contract: the answer's case says the place after it.
 use borrow.Author.Needs.{needs}
 use native.Mathlib.Omega.{arith}
 use Rattle.walk_step.proofs.Stepping.{few-rows, turned-row, turned-done, turned-refused}
-use Rattle.walk_step.proofs.turn_at.Statement.{statement}
-use Rattle.walk_step.proofs.turn_at.Tie as tie
+use Rattle.walk_step.proofs.turn_by.Statement.{statement}
+use Rattle.walk_step.proofs.turn_by.Tie as tie
 
-pub turn-at-spec : {M : Type 1} → statement M
-turn-at-spec =
+pub turn-by-spec : {M : Type 1} → statement M
+turn-by-spec =
     tie.close
     (tie.spec
     (λ c κs. search needs)

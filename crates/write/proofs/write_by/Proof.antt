@@ -1,4 +1,4 @@
--- `write::write` meets its contract: the table, and then the rest under the copied table.
+-- `write::write_by` meets its contract: the table, and then the rest under the copied table.
 use mathlib.Core.Path.{_≡_, ap, _∙_}
 use mathlib.Core.Bool.{true}
 use borrow.Author.Needs.{needs}
@@ -7,14 +7,14 @@ use Rattle.lists.proofs.Tests.{was-true, was-false}
 use Rattle.table.specs.Table.{goodTable}
 use Rattle.table.proofs.Pairs.{sized, in-front, front-is, front-long}
 use Rattle.write.proofs.RequestItems.{table-bad, table-good}
-use Rattle.write.proofs.write.Statement.{statement}
-use Rattle.write.proofs.write.Tie as tie
+use Rattle.write.proofs.write_by.Statement.{statement}
+use Rattle.write.proofs.write_by.Tie as tie
 
 good : (c : tie.Else1) → goodTable (c .before .before .before .before .before .before .before .before .args .pairs .now) ≡ true
 good c = was-true (c .before .good2 .ensures) (c .if1 .left)
 
-pub write-spec : {M : Type 1} → statement M
-write-spec =
+pub write-by-spec : {M : Type 1} → statement M
+write-by-spec =
     tie.close
     (tie.spec
     (λ c κs. search needs)
