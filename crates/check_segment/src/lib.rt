@@ -97,9 +97,3 @@ pub fn check_by(by: Engine, pairs: &[u64], seg: &[u8]) -> Verdict
     let count = pairs.len();
     check_segment(by, &numbers[..count], seg)
 }
-
-pub fn check(pairs: &[u64], seg: &[u8]) -> Verdict
-    ensures { λ r. ⌜ checkAnswer r ≡ checkOf (now (pairs .entry)) (now (seg .entry)) ⌝ }
-{
-    check_by(Engine::Fast, pairs, seg)
-}

@@ -8,6 +8,7 @@ ghost use Rattle.list_line.specs.Stopped.{Stopped};
 ghost use Rattle.list_input.specs.Parts.{onlyPiece, Part};
 use answer::Refusal;
 use answer::Verdict;
+use checksum::Engine;
 use list_columns::NEWLINE;
 use list_line::Stop;
 use list_place::Place;
@@ -70,7 +71,7 @@ pub fn more(input: &[u8], place: Place, out: &mut [u8]) -> Stop
         return put_long(place, out);
     }
     let table = [1u64, 32, 7, 4];
-    match check_segment::check(&table, input) {
+    match check_segment::check_by(Engine::Fast, &table, input) {
         Verdict::Refused(r) => put_refused(r, place, out),
         Verdict::Accepted => list_text::fill(input, place, out),
     }

@@ -107,9 +107,3 @@ pub fn look_up_by(by: Engine, pairs: &[u64], seg: &[u8], hash: u64, digest: &[u8
     let count = pairs.len();
     look_up_under(by, &numbers[..count], seg, hash, digest)
 }
-
-pub fn look_up(pairs: &[u64], seg: &[u8], hash: u64, digest: &[u8]) -> Found
-    ensures { λ r. ⌜ foundAnswer r ≡ lookUpOf (now (pairs .entry)) (now (seg .entry)) (keyFrom hash (now (digest .entry))) ⌝ }
-{
-    look_up_by(Engine::Fast, pairs, seg, hash, digest)
-}

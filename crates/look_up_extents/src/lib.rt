@@ -49,10 +49,3 @@ pub fn extents_of_by<'a>(
         Found::Refused(r) => cut(seg, FileOffset(0), 0),
     }
 }
-
-pub fn extents_of<'a>(pairs: &[u64], seg: &'a [u8], hash: u64, digest: &[u8]) -> &'a [u8]
-    ensures { λ r. ⌜ now r ≡
-        extentsPart (lookedUp (now (pairs .entry)) (now (seg .entry)) (keyFrom hash (now (digest .entry)))) (now (seg .entry)) ⌝ }
-{
-    extents_of_by(Engine::Fast, pairs, seg, hash, digest)
-}

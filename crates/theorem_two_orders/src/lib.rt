@@ -1,8 +1,9 @@
 // Two segments of one meaning: case L, and the same records in the other order with their digests exchanged. Tidy makes the
-// same bytes of both, by the theorem of demand 3 and not by a run.
+// same bytes of both, the one by the fast engine of the checksum and the other by the plain one, by the theorem of demand 3 and not by a run.
 ghost use Rattle.theorem_cases.specs.PCases.{caseL};
 ghost use Rattle.theorem_two_orders.specs.Orders.{turnedL, Holds, OneForm};
 use answer::Written;
+use checksum::Engine;
 
 // Case L, tidy: header, two records, digests, extent, footer.
 const IN_ORDER: [u8; 256] = *b"\
@@ -73,7 +74,7 @@ pub fn two_orders(a: &mut [u8], b: &mut [u8]) -> Answers
     let pair = segments();
     let one = pair.first;
     let other = pair.second;
-    let first = tidy::tidy(&table, &one, a);
-    let second = tidy::tidy(&table, &other, b);
+    let first = tidy::tidy_by(Engine::Fast, &table, &one, a);
+    let second = tidy::tidy_by(Engine::Plain, &table, &other, b);
     Answers { first, second }
 }

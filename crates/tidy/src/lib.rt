@@ -80,9 +80,3 @@ pub fn tidy_by(by: Engine, pairs: &[u64], seg: &[u8], out: &mut [u8]) -> Written
     let count = pairs.len();
     tidy_under(by, &numbers[..count], seg, out)
 }
-
-pub fn tidy(pairs: &[u64], seg: &[u8], out: &mut [u8]) -> Written
-    ensures { λ r. ⌜ outcome r (now (out .exit)) ≡ tidyOf (now (pairs .entry)) (now (seg .entry)) (now (out .entry)) ⌝ }
-{
-    tidy_by(Engine::Fast, pairs, seg, out)
-}

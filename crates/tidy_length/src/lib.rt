@@ -80,9 +80,3 @@ pub fn tidy_length_by(by: Engine, pairs: &[u64], seg: &[u8]) -> Written
     let count = pairs.len();
     length_under(by, &numbers[..count], seg)
 }
-
-pub fn tidy_length(pairs: &[u64], seg: &[u8]) -> Written
-    ensures { λ r. ⌜ writtenAnswer r ≡ tidyLengthOf (now (pairs .entry)) (now (seg .entry)) ⌝ }
-{
-    tidy_length_by(Engine::Fast, pairs, seg)
-}

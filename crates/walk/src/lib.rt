@@ -35,9 +35,3 @@ pub fn step_from_by(by: Engine, pairs: &[u64], segment: &[u8], at: usize) -> Ste
     let t = walk_step::turn_by(by, pairs, segment, at);
     t.step
 }
-
-pub fn step_from(pairs: &[u64], segment: &[u8], at: usize) -> Step
-    ensures { λ r. ⌜ stepAnswer r ≡ stepOf (now (pairs .entry)) (now (segment .entry)) at ⌝ }
-{
-    step_from_by(Engine::Fast, pairs, segment, at)
-}

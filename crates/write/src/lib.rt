@@ -88,28 +88,3 @@ pub fn write_by(
         out,
     )
 }
-
-pub fn write(
-    pairs: &[u64],
-    t: Heading,
-    bloom: &[u8],
-    entries: &[u64],
-    digests: &[u8],
-    extents: &[u64],
-    out: &mut [u8],
-) -> Written
-    ensures { λ r. ⌜ outcome r (now (out .exit)) ≡ writeOf (now (pairs .entry))
-        (asked t (now (bloom .entry)) (now (entries .entry)) (now (digests .entry)) (now (extents .entry)))
-        (now (out .entry)) ⌝ }
-{
-    write_by(
-        Engine::Fast,
-        pairs,
-        t,
-        bloom,
-        entries,
-        digests,
-        extents,
-        out,
-    )
-}

@@ -23,14 +23,14 @@ more-spec =
     (λ c κs. search needs)
     (λ c. search needs)
     (λ c κs. let told = c .before in let checked = told .before .before in
-    checked-readable _ _ (check-told _ _ _ (checked .check .ensures) ∙ told .enum-told .given .1))
+    checked-readable _ _ (check-told _ _ _ (checked .«check-by» .ensures) ∙ told .enum-told .given .1))
     (λ c. search needs)
     (λ c. let put = c .before .before in let told = put .before .before .before in let checked = told .before .before in let short = checked .before .before in
     part-told _ _ _ _ _ _ _
-    (part-refused _ _ _ (omega (arith, short .before .if1 .left)) (omega (arith, short .if2 .left)) _ (check-told _ _ _ (checked .check .ensures) ∙ told .r .given .1))
+    (part-refused _ _ _ (omega (arith, short .before .if1 .left)) (omega (arith, short .if2 .left)) _ (check-told _ _ _ (checked .«check-by» .ensures) ∙ told .r .given .1))
     (omega (arith, short .before .if1 .left)) (put .put-refused .ensures))
     (λ c. search needs)
     (λ c. let put = c .before .before in let told = put .before .before in let checked = told .before .before in let short = checked .before .before in
     part-told _ _ _ _ _ _ _
-    (part-listed _ _ _ (omega (arith, short .before .if1 .left)) (omega (arith, short .if2 .left)) (check-told _ _ _ (checked .check .ensures) ∙ told .enum-told .given .1))
+    (part-listed _ _ _ (omega (arith, short .before .if1 .left)) (omega (arith, short .if2 .left)) (check-told _ _ _ (checked .«check-by» .ensures) ∙ told .enum-told .given .1))
     (omega arith) (put .fill .ensures)))

@@ -9,7 +9,7 @@ returns c =
     let second = c .before .before in
     let first = second .before .before .before .before .before .before in
     let lent = first .before .before .before .before .before .before in
-    one-form _ _ (lent .segments .ensures .0) (lent .segments .ensures .1) _ _ _ _ _ (first .tidy .ensures) (second .tidy2 .ensures)
+    one-form _ _ (lent .segments .ensures .0) (lent .segments .ensures .1) _ _ _ _ _ (first .«tidy-by» .ensures) (second .«tidy-by2» .ensures)
 
 pub two-orders-spec : {M : Type 1} → statement M
 two-orders-spec =
