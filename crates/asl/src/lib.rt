@@ -42,6 +42,7 @@ pub use tidy::tidy_by;
 pub use tidy_length::tidy_length_by;
 pub use walk::Walker;
 pub use walk::next;
+pub use walk::next_by;
 pub use walk::start;
 pub use walk::step_from_by;
 pub use write::write_by;

@@ -8,11 +8,7 @@ use Rattle.segment.specs.declared.step.Step.{Step}
 use Rattle.segment.specs.Walk.{nextPlace, stepAnswer, stepOf}
 use Rattle.segment.proofs.StepSettled.{step-settled}
 use Rattle.walk.specs.declared.Walker.{Walker}
-
--- what `next` promises of a walker under a table: of the answer, and of the walker after it
-abbrev pub Taken : List ℕ → Walker → Step × Walker → Type 0
-Taken pairs w y =
-    (stepAnswer (y .0) ≡ stepOf pairs (now (w .segment)) (w .at)) × (y .1 .segment ≡ w .segment) × (y .1 .at ≡ nextPlace (y .0) (w .at))
+use Rattle.walk.specs.Taken.{Taken}
 
 unfoldable made : RefT (List ℕ) → ℕ → Walker
 made s k = record { segment = s; at = k }

@@ -1,6 +1,7 @@
 // The walk: a segment's records, handed out one at a time. A walker is a thin struct over the steps of `crates/walk_step`.
 ghost use mathlib.Core.Path.{_≡_};
-ghost use Rattle.segment.specs.Walk.{nextPlace, stepAnswer, stepOf};
+ghost use Rattle.segment.specs.Walk.{stepAnswer, stepOf};
+ghost use Rattle.walk.specs.Taken.{Taken};
 use checksum::Engine;
 use segment::step::Step;
 
@@ -18,14 +19,18 @@ pub fn start<'a>(segment: &'a [u8]) -> Walker<'a>
 }
 
 // One step of the walk, which moves on after a record.
-pub fn next<'s, 'a, 't>(w: &'s mut Walker<'a>, pairs: &'t [u64]) -> Step
-    ensures { λ r. ⌜ (stepAnswer r ≡ stepOf (now (pairs .entry)) (now (now (w .entry) .segment)) (now (w .entry) .at))
-        × (now (w .exit) .segment ≡ now (w .entry) .segment)
-        × (now (w .exit) .at ≡ nextPlace r (now (w .entry) .at)) ⌝ }
+pub fn next_by<'s, 'a, 't>(by: Engine, w: &'s mut Walker<'a>, pairs: &'t [u64]) -> Step
+    ensures { λ r. ⌜ Taken (now (pairs .entry)) (now (w .entry)) (r, now (w .exit)) ⌝ }
 {
-    let t = walk_step::turn_at(pairs, w.segment, w.at);
+    let t = walk_step::turn_by(by, pairs, w.segment, w.at);
     w.at = t.at;
     t.step
+}
+
+pub fn next<'s, 'a, 't>(w: &'s mut Walker<'a>, pairs: &'t [u64]) -> Step
+    ensures { λ r. ⌜ Taken (now (pairs .entry)) (now (w .entry)) (r, now (w .exit)) ⌝ }
+{
+    next_by(Engine::Fast, w, pairs)
 }
 
 // The step at a place, for a caller that keeps no walk.

@@ -46,9 +46,3 @@ pub fn turn_by(by: Engine, pairs: &[u64], segment: &[u8], at: usize) -> Turn
         Step::Refused(_) => Turn { step, at },
     }
 }
-
-pub fn turn_at(pairs: &[u64], segment: &[u8], at: usize) -> Turn
-    ensures { λ r. ⌜ r ≡ turnOf (now (pairs .entry)) (now (segment .entry)) at ⌝ }
-{
-    turn_by(Engine::Fast, pairs, segment, at)
-}
