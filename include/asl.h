@@ -151,7 +151,7 @@ static inline const char *asl_refusal_name(uint64_t number) {
 
 /* Answers -------------------------------------------------------------------------------------------------------- */
 
-/* What every call returns: number + 2^8 * which + 2^16 * value. */
+/* What a call on a segment or a request returns: number + 2^8 * which + 2^16 * value. */
 typedef struct asl_answer {
     uint64_t bits;
 } asl_answer;
@@ -279,8 +279,7 @@ typedef struct asl_record {
  * The checksum has two engines. Both are proved to give the checksum of the format on every input, so they differ in
  * time and in stack alone. Every other number is settled too: it is taken as ASL_ENGINE_FAST. The plain one is there
  *   to compare      a run by each engine shows that the machine does as the proof says, tables included;
- *   for the stack   the fast one puts its tables there, 16 KiB, in every call whose input is long enough to pay for it;
- *   for the reader  it has no tables that have to be believed by whoever has not read the proof.
+ *   for the stack   the fast one puts its tables there, 16 KiB, in every call whose input is long enough to pay for it.
  */
 enum asl_engine {
     ASL_ENGINE_FAST = 0, /* eight bytes at a step, by tables; what a caller gets who does not choose */

@@ -67,7 +67,7 @@ pub fn of_a_great_bloom() {
 fn seal(file: &mut [u8]) {
     if 24 <= file.len() {
         let end = file.len() - 24;
-        let sum = crc64::crc64_plain(&file[..end]);
+        let sum = asl::checksum(&file[..end]);
         numbers::put_u64(file, end, sum);
     }
 }

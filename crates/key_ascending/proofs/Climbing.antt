@@ -11,7 +11,7 @@ use borrow.Author.Tests.{not-true}
 use Rattle.answer.specs.declared.Verdict.the-variants.{Accepted}
 use Rattle.answer.specs.Rules.{firstOver}
 use Rattle.lists.proofs.Tests.{by-test, and-iff}
-use Rattle.lists.specs.Lists.{lexLeq}
+use Rattle.lists.specs.Lists.{lexLeq, sortBy, countFrom, Ascending}
 use Rattle.segment.specs.Keys.{NoKeyTwice}
 use Rattle.key.specs.declared.Kind.{Kind}
 use Rattle.key.specs.Items.{itemKey}
@@ -22,6 +22,7 @@ use Rattle.key.proofs.Duplicates.{keys-book}
 use Rattle.lists.proofs.Lex.{lex-refl}
 use Rattle.key.proofs.ItemOrder.{item-order}
 use Rattle.lists.proofs.Sorting.{Total}
+use Rattle.lists.proofs.Arranged.{sort-keeps}
 use Rattle.key_ascending.specs.Climbs.{climbs}
 
 -- ---- one more, and a fall
@@ -84,6 +85,17 @@ module _ (leq : ℕ → ℕ → Bool) where
 
     pub apart : (n i j : ℕ) → climbs leq n ≡ true → i < n → j < i → leq i j ≡ false
     apart n i j c h l = later i j (prefix-climbs n (suc i) c h) l
+
+    ascends : (n : ℕ) → climbs leq n ≡ true → (k m : ℕ) → k + m ≤ n → Ascending leq (countFrom k m)
+    unfolding Ascending countFrom
+    ascends n c k zero h = tt
+    ascends n c k (suc zero) h = tt
+    ascends n c k (suc (suc m)) h =
+        (o .total (suc k) k (apart n (suc k) k c (omega arith) (omega arith)), ascends n c (suc k) (suc m) (omega arith))
+
+    -- what climbs is sorted as it stands
+    pub stays-sorted : (n : ℕ) → climbs leq n ≡ true → countFrom 0 n ≡ sortBy leq (countFrom 0 n)
+    stays-sorted n c = sym (sort-keeps leq (countFrom 0 n) (ascends n c 0 n (omega arith)))
 
 -- ---- the pass
 

@@ -46,7 +46,8 @@ fn sort(
     key_join::join(kind, bytes, list, hints, numbers, m, spare);
 }
 
-// The numbers of as many items as there is room for, sorted by the items' keys; and the items' hints, which are left to compare by.
+// The numbers of as many items as there is room for, sorted by the items' keys; and the items' hints, which are left to compare by. Keys that
+// climb already, as those of a tidy segment do, cost one pass and no sort.
 pub fn sorted(
     kind: Kind,
     bytes: &[u8],
@@ -63,5 +64,8 @@ pub fn sorted(
 {
     key_hint::put_hints(kind, bytes, list, hints);
     count_up(numbers);
+    if key_ascending::keys_climb(kind, bytes, list, numbers.len()) {
+        return;
+    }
     sort(kind, bytes, list, hints, numbers, spare);
 }

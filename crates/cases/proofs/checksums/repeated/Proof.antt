@@ -5,10 +5,10 @@ use Rattle.cases.proofs.checksums.repeated.Statement.{statement}
 use Rattle.cases.proofs.checksums.repeated.Tie as tie
 
 abbrev Inv-loop : tie.InvT-loop
-Inv-loop block times register₀ k₀ register k = k ≤ times
+Inv-loop by block times sum₀ k₀ sum k = k ≤ times
 
 abbrev μ-loop : tie.MeasureT-loop
-μ-loop block times register₀ k₀ register k = times - k
+μ-loop by block times sum₀ k₀ sum k = times - k
 
 pub repeated-spec : {M : Type 1} → statement M
 repeated-spec =
@@ -21,5 +21,4 @@ repeated-spec =
     (λ c. search needs)
     (λ c. search needs)
     (λ c. search needs)
-    (λ c κs. search needs)
     (λ c. search needs))

@@ -1,4 +1,4 @@
--- `cases::checksums::rising` meets its contract: each store keeps the block's 256 bytes.
+-- `cases::checksums::rising` meets its contract: each store keeps the block's 1024 bytes.
 use mathlib.Core.Path.{_≡_}
 use Prim.Native.Nat.{_≤_, _-_}
 use lib.ListN.{length, length-set}
@@ -8,10 +8,10 @@ use Rattle.cases.proofs.checksums.rising.Statement.{statement}
 use Rattle.cases.proofs.checksums.rising.Tie as tie
 
 abbrev Inv-loop : tie.InvT-loop
-Inv-loop block₀ i₀ block i = (i ≤ 256) × (256 ≡ length block)
+Inv-loop block₀ i₀ block i = (i ≤ 1024) × (1024 ≡ length block)
 
 abbrev μ-loop : tie.MeasureT-loop
-μ-loop block₀ i₀ block i = 256 - i
+μ-loop block₀ i₀ block i = 1024 - i
 
 pub rising-spec : {M : Type 1} → statement M
 rising-spec =
