@@ -47,12 +47,12 @@ pub record DemandOne (pairs table s : List ℕ) (key : Key) (at : ℕ) (q : Requ
   pub write : Leaves (inRequest (entryCount (q .entries))) (writeOf pairs q out) out
   -- `length_in` refuses nothing
   pub lengthIn : (listed : List Pair) (hash : ℕ) → lengthOf listed hash .number ≡ 0
-  -- `number` of any refusal; `place`, `start` and `asl_raw_version` refuse nothing and write to nothing
+  -- `number` of any refusal; `place`, `start`, `asl_raw_version` and the checksum's calls refuse nothing and write to nothing
   pub number : (r : Refusal) → inTable (numberOf r) ≡ true
   -- each number of the table is some refusal's, and 5 is none of them
   pub numbers : (n : ℕ) → inTable n ≡ true → (r : Refusal) × (numberOf r ≡ n)
   pub gap : inTable 5 ≡ false
-  -- `asl_raw_check`, .. `asl_raw_write`
+  -- `asl_raw_check`, .. `asl_raw_write`, each by any engine too
   pub rawCheck : PlacedBy (inSegment s) (saidIn (bitsOf (checkOf (tableIn table) s) 0))
   pub rawLookUp : LeavesAt (inSegment s) (replyLeft (replyOf (lookedUp (tableIn table) s key)) out) out
   pub rawStep : LeavesAt (inSegment s) (stepLeft (stepped (tableIn table) s at) out) out
