@@ -1,10 +1,10 @@
 /*
  * asl.h: check, look up, walk, tidy and write ASL index segments. Version 3.1 of the interface.
  *
- * A segment is accepted whole, or refused with a number and a place. Every call makes the whole check itself, so no
- * answer is ever drawn from a damaged segment. docs/C.md has an example that can be compiled, and says how a program
- * moves here from version 3.0, from version 2, and from version 1. docs/SERVICES.md says what each call answers and
- * refuses, docs/FORMAT.md which field earns which refusal.
+ * A segment is accepted whole, or refused with a number and a place. Every call on a segment makes the whole check
+ * itself, so no answer is ever drawn from a damaged one. docs/C.md has an example that can be compiled, and says how a
+ * program moves here from version 3.0, from version 2, and from version 1. docs/SERVICES.md says what each call answers
+ * and refuses, docs/FORMAT.md which field earns which refusal.
  *
  * Call asl_check, asl_look_up, asl_step, asl_tidy_length, asl_tidy and asl_write; and asl_checksum and asl_checksum_on
  * for the checksum alone. They are inline and stand over the library's own symbols, asl_raw_.., which take bare bytes
@@ -279,11 +279,12 @@ typedef struct asl_record {
  * The checksum has two engines. Both are proved to give the checksum of the format on every input, so they differ in
  * time and in stack alone. Every other number is settled too: it is taken as ASL_ENGINE_FAST. The plain one is there
  *   to compare      a run by each engine shows that the machine does as the proof says, tables included;
- *   for the stack   the fast one puts its tables there, 16 KiB, in every call whose input is long enough to pay for it.
+ *   for the stack   the fast one puts its tables there, 16 KiB.
+ * The fast one hands a short input to the plain one, without tables: docs/C.md, "The engines of the checksum".
  */
 enum asl_engine {
     ASL_ENGINE_FAST = 0, /* eight bytes at a step, by tables; what a caller gets who does not choose */
-    ASL_ENGINE_PLAIN = 1 /* bit by bit */
+    ASL_ENGINE_PLAIN = 1 /* written bit by bit, of which the compiler makes a table of 256 numbers */
 };
 
 /* The library's own symbols -------------------------------------------------------------------------------------- */

@@ -21,7 +21,6 @@ WAYS = {
     "liblzma": "liblzma",
 }
 LONG = 65536  # the length in bytes from which speed is wanted
-TINY = 8  # below it a call takes so few nanoseconds that the fast engine's look at the length shows in a ratio
 
 
 def read(path):
@@ -85,11 +84,7 @@ def wanted(times):
         print("\nnot held: fast / liblzma, which has a carry-less multiply on this processor (pclmulqdq)")
     for size, ways in times.items():
         speeds = {name: ratio(ways) for name, ratio in RATIOS.items()}
-        if size < TINY:
-            more = ways["fast"] - ways["plain"]
-            yield Demand(f"{size:,} bytes, nanoseconds of fast over plain", more, "at most", 1)
-        else:
-            yield Demand(f"{size:,} bytes, time of fast / plain", 1 / speeds["fast / plain"], "at most", 1.05)
+        yield Demand(f"{size:,} bytes, time of fast / plain", 1 / speeds["fast / plain"], "at most", 1.05)
         least = {"fast / C by 8": 0.95, "plain / C loop": 0.5}
         if not multiplies():
             least["fast / liblzma"] = 1.5

@@ -2,9 +2,8 @@
 // tests/fixtures, SAMPLE is samples/case-l.asl. Each call is held to its answer and to every byte of every buffer: a
 // refused call changes nothing, an answered one nothing but what it answers. The stack that they take is measured. Its
 // last line is `N passed, M failed`; where it cannot read what it is given, it says so and ends without one.
-#include <pthread.h>
-
 #include "held.h"
+#include "stack.h"
 
 // Files -------------------------------------------------------------------------------------------------------------
 
@@ -595,19 +594,14 @@ static void *all_calls(void *arguments) {
     return NULL;
 }
 
-// Makes all calls on a stack filled with one byte, and counts how far they came down in it. What this program takes for
-// itself is counted too.
+// Makes all calls on a painted stack, and counts how far they came down in it. What this program takes for itself is
+// counted too.
 int main(int argc, char **argv) {
-    enum { STACK = 8 << 20, PROMISED = 1 << 20, FILL = 0xA5 };
-    static _Alignas(64) uint8_t stack[STACK];
-    pthread_attr_t on_stack;
-    pthread_t thread;
-    memset(stack, FILL, STACK);
-    if (argc != 3 || pthread_attr_init(&on_stack) || pthread_attr_setstack(&on_stack, stack, STACK) ||
-        pthread_create(&thread, &on_stack, all_calls, argv) || pthread_join(thread, NULL))
-        return 2;
+    enum { PROMISED = 1 << 20 };
+    memset(stack, PAINT, STACK);
+    if (argc != 3 || !on_stack(all_calls, argv)) return 2;
     int untouched = 0;
-    while (untouched < STACK && stack[untouched] == FILL) untouched++;
+    while (untouched < STACK && stack[untouched] == PAINT) untouched++;
     printf("all calls took at most %d bytes of stack\n", STACK - untouched);
     calling("all calls");
     expect(STACK - untouched < PROMISED, WRITE, "more stack than asl.h promises");

@@ -27,6 +27,7 @@ WAYS = ["whole by plain", "whole by fast"] + [
     for parts in (1, 2, 3)
     for choice in range(2**parts)
 ]
+WAYS += ["the library by plain", "the library by fast", "the library by plain, fast", "the library by fast, plain"]
 
 Case = collections.namedtuple("Case", "data place cuts published", defaults=[None])
 
@@ -53,8 +54,8 @@ def at_random(rng, length):
 def cases(rng, pays):
     for number, data in vectors.PUBLISHED:
         yield at_random(rng, len(data))._replace(data=data, published=number)
-    # every length to 300, and those around the length from which the fast engine uses its tables, at every place
-    for length in [*range(301), *range(max(0, pays - 9), pays + 10)]:
+    # every length to 300, and those around and above the length from which the fast engine uses its tables, at every place
+    for length in [*range(301), *range(max(0, pays - 9), pays + 64)]:
         for place in range(8):
             yield at_random(rng, length)._replace(place=place)
     # parts of about that length

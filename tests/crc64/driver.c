@@ -4,7 +4,8 @@
 //
 // The ways, in this order: the whole by either engine, the plain one first; then the input run in one part, in two (cut
 // at the first cut) and in three, in each of these by every choice of an engine for each part. Of the choices bit p is
-// set where the fast engine runs part p.
+// set where the fast engine runs part p. Last the library's own calls, for which the engines were compiled once more: the
+// whole, and in two parts, of which the second goes by the other engine; the plain one first.
 #include <inttypes.h>
 #include <stddef.h>
 #include <stdint.h>
@@ -17,6 +18,8 @@ uint64_t crc64_plain_on(uint64_t before, const uint8_t *s, size_t n);
 uint64_t crc64_fast(const uint8_t *s, size_t n);
 uint64_t crc64_fast_on(uint64_t before, const uint8_t *s, size_t n);
 uint64_t crc64_finish(uint64_t last);
+uint64_t asl_raw_checksum_by(uint64_t engine, const uint8_t *s, size_t n);
+uint64_t asl_raw_checksum_on_by(uint64_t engine, uint64_t before, const uint8_t *s, size_t n);
 
 enum { PARTS_MOST = 3 };
 
@@ -32,6 +35,13 @@ static uint64_t in_parts(const uint8_t *s, const size_t *ends, int parts, unsign
     return crc64_finish(c);
 }
 
+// In the library 1 asks for the plain engine and 0 for the fast one.
+static void show_library(const uint8_t *s, size_t n, size_t cut) {
+    for (int fast = 0; fast <= 1; fast++) printf(" %016" PRIx64, asl_raw_checksum_by(!fast, s, n));
+    for (int fast = 0; fast <= 1; fast++)
+        printf(" %016" PRIx64, asl_raw_checksum_on_by(fast, asl_raw_checksum_by(!fast, s, cut), s + cut, n - cut));
+}
+
 static void show(const uint8_t *s, size_t n, const size_t *cuts) {
     printf("%u %016" PRIx64 " %016" PRIx64, (unsigned)((uintptr_t)s % 8), crc64_plain(s, n), crc64_fast(s, n));
     for (int parts = 1; parts <= PARTS_MOST; parts++) {
@@ -41,6 +51,7 @@ static void show(const uint8_t *s, size_t n, const size_t *cuts) {
         for (unsigned choice = 0; choice < 1u << parts; choice++)
             printf(" %016" PRIx64, in_parts(s, ends, parts, choice));
     }
+    show_library(s, n, cuts[0]);
     printf("\n");
 }
 

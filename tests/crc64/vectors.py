@@ -5,7 +5,7 @@ RISING = bytes(range(256))
 PUBLISHED = [
     # the check value of CRC-64/XZ in the catalogue of CRC algorithms (reveng), and in the test of liblzma
     (0x995D_C9BB_DF19_39FA, b"123456789"),
-    # those that the program of crates/cases prints
+    # those that the program of crates/cases prints, on which xz, 7-Zip, crcmod and crccheck agree
     (0x1FAD_A173_6467_3F59, bytes(1)),
     (0xC95A_F861_7CD5_330C, bytes(32)),
     (0xE95D_CE9E_FAA0_9ACF, b"\xff" * 32),

@@ -16,7 +16,7 @@ from damages import DAMAGES, RECORD_DAMAGES, damage, edges
 from fields import (EXTENT_FIELDS, FOOTER_FIELDS, HEADER_FIELDS, RECORD_FIELDS, Places, get, put,
                     seal)
 from faults import spoil
-from shapes import Lent, any_meaning, broken_tables, lay_out, lend
+from shapes import Lent, Meaning, any_meaning, broken_tables, lay_out, lend
 
 # A whole segment with what questions about it need: the keys that stand in it and the length of
 # its tidy form.
@@ -140,18 +140,23 @@ def every_truncation(rng, subjects):
                 yield ask(rng, kind, subject, subject.segment + bytes(more), f"{more} more")
 
 
+def changed_byte(rng, kinds, subject, place, value):
+    """One byte at another value, the checksum left and made right."""
+    segment = bytearray(subject.segment)
+    name = f"byte {place} {segment[place]} -> {value}"
+    segment[place] = value
+    yield ask(rng, next(kinds), subject, bytes(segment), name + ", checksum left")
+    seal(segment)
+    yield ask(rng, next(kinds), subject, bytes(segment), name + ", checksum right")
+
+
 def every_byte(rng, subjects):
     """Every single byte at several values, the checksum left and made right."""
     kinds = cycle(SEGMENT_KINDS)
     for subject in subjects:
         for place, old in enumerate(subject.segment):
             for value in sorted({0, 1, 2, 0x80, 0xFF, old ^ 1} - {old}):
-                segment = bytearray(subject.segment)
-                segment[place] = value
-                name = f"byte {place} {old} -> {value}"
-                yield ask(rng, next(kinds), subject, bytes(segment), name + ", checksum left")
-                seal(segment)
-                yield ask(rng, next(kinds), subject, bytes(segment), name + ", checksum right")
+                yield from changed_byte(rng, kinds, subject, place, value)
 
 
 def structures(segment):
@@ -294,6 +299,24 @@ def every_table_for_write(rng):
             yield write_case(rng, lent, name)
 
 
+# Systematic cases over a long segment ---------------------------------------------------------
+
+def long_cases(rng):
+    """The segment that is long enough for the fast engine's tables, whole, changed and written.
+    These take eight bytes at a step, and every seventh byte is each of the eight in turn."""
+    kinds = cycle(SEGMENT_KINDS)
+    subject = subject_of("long", small.TABLE, small.long())
+    for kind in SEGMENT_KINDS:
+        yield ask(rng, kind, subject, subject.segment, "whole")
+    footer = Places(subject.segment).footer
+    checksum = range(footer, footer + FOOTER_FIELDS["crc64"][1])
+    for place in [*range(0, footer, 7), *checksum]:
+        yield from changed_byte(rng, kinds, subject, place, subject.segment[place] ^ 1)
+    meaning = Meaning(small.TABLE, small.HEADING, small.LONG_BLOOM, small.long_records())
+    for _ in range(10):
+        yield write_case(rng, lend(rng, meaning), "long", needed=subject.tidy_length)
+
+
 # The listing ----------------------------------------------------------------------------------
 
 def listing_cases(rng, count):
@@ -396,6 +419,7 @@ def systematic_cases(rng):
     yield from every_ending(rng)
     yield from every_room_for_write(rng)
     yield from every_table_for_write(rng)
+    yield from long_cases(rng)
     yield from combined.combined_cases(rng)
 
 

@@ -73,11 +73,15 @@ def with_gap(segment, start):
     return bytes(changed)
 
 
-def with_wrong_checksum(segment):
-    """The segment with one bit of its checksum turned."""
+def with_bit_turned(segment, place):
+    """The segment with the lowest bit of that byte turned, and the checksum left."""
     changed = bytearray(segment)
-    changed[-FOOTER_SIZE] ^= 1
+    changed[place] ^= 1
     return bytes(changed)
+
+
+def with_wrong_checksum(segment):
+    return with_bit_turned(segment, -FOOTER_SIZE)
 
 
 def digests_not_by_8():
@@ -99,6 +103,7 @@ SEGMENTS = [
     ("00-one", small.one(), 0),
     ("00-case-l", L, 0),
     ("00-mixed", MIXED, 0),
+    ("00-long", small.long(), 0),
     ("00-extent-ends-at-2-to-32", with_extent(
         with_record(small.one(), 0, total=1), 0, offset=2**32 - 1, length=1), 0),
     ("00-empty-export", in_order([live(KEY_7D, [(9, 64, 0)])]), 0),
@@ -159,9 +164,11 @@ SEGMENTS = [
     ("55-extent-count", with_header(L, extent_count=2), 88),
     ("55-extent-count-wraps", with_header(L, extent_count=1 + 2**60), 88),
     ("55-before-6", with_wrong_checksum(with_header(L, extent_count=2)), 88),
-    # 6: a checksum that differs in one bit, and a changed byte under the old checksum.
+    # 6: a checksum that differs in one bit, and a changed byte under the old checksum: in a short
+    # file, and in the digests of one that is long enough for the fast engine's tables.
     ("06-checksum", BAD_CHECKSUM, 0),
-    ("06-padding-changed", small.one()[:167] + b"\1" + small.one()[168:], 0),
+    ("06-padding-changed", with_bit_turned(small.one(), 167), 0),
+    ("06-long", with_bit_turned(small.long(), 717), 0),
     # 7: each of a record's fixed fields, in record 1.
     ("07-reserved-6", with_record(L, 1, reserved_6=1), 160),
     ("07-reserved-38", with_record(L, 1, reserved_38=256), 160),

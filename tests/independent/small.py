@@ -67,4 +67,22 @@ def mixed():
                 pack_extents(extents), bloom=bytes.fromhex("b1000000000000b8"))
 
 
+LONG_BLOOM = bytes(range(0xB0, 0xC0))
+
+
+def long_records():
+    """Twelve records with digests of both lengths, in no order; the last one is gone."""
+    by_7 = [live(bytes([9 - i, i, i, i]), [(i, 64, 3)] * (1 + i % 2), visibility=i % 2)
+            for i in range(4)]
+    by_1 = [live(bytes(range(i, i + 32)), [(i, 2**32 - i, i)], hash_id=1, imported=1, source=i)
+            for i in range(6, 0, -1)]
+    return [*by_7, live(KEY_7D, [(9, 64, 3)]), *by_1, gone(KEY_7E)]
+
+
+def long():
+    """1,152 bytes, and so long enough for the fast engine's tables (PAYS in crates/crc64_fast),
+    which the others are not. tests/c/apart.c would notice if it became too short."""
+    return in_order(long_records(), bloom=LONG_BLOOM)
+
+
 SMALL_FILES = {"empty": empty, "one": one, "case L": case_l, "mixed": mixed}

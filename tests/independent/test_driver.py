@@ -16,7 +16,7 @@ import fixtures
 import testing
 from askers import Driver
 from case import answer_of
-from cases import random_cases, systematic_cases
+from cases import long_cases, random_cases, systematic_cases
 from compare import Tally
 
 SEED = 20_241
@@ -89,13 +89,20 @@ WRONG = {
         LAID_OUT, LAID_OUT + "\n    if (engine == ASL_ENGINE_PLAIN)"
                              " ((uint8_t *)bytes)[H_SHARD] ^= 1;"),
 }
+# The library's fast engine uses its tables from some such length on.
+WRONG_ON_LONG = (
+    CHECKSUM, "before ^= engine == ASL_ENGINE_FAST && size >= 1000;\n    " + CHECKSUM)
 READS_TOO_FAR = (LAID_OUT, "if (!asl_ok(laid_out) || bytes[size] == 1) return laid_out;")
+
+
+def for_the_driver(cases):
+    return [case for case in cases if case.kind != "list"]
 
 
 def some_cases():
     rng = random.Random(SEED)
-    cases = fixtures.cases() + list(systematic_cases(rng))[::13] + list(random_cases(rng, 800))
-    return [case for case in cases if case.kind != "list"]
+    return for_the_driver(fixtures.cases() + list(systematic_cases(rng))[::13]
+                          + list(random_cases(rng, 800)))
 
 
 CASES = some_cases()
@@ -107,7 +114,7 @@ def replaced(old, new):
     return PLAIN.replace(old, new)
 
 
-def tally_of(source):
+def tally_of(source, cases=CASES, expected=EXPECTED):
     """What the comparison says of driver.c over this source."""
     with tempfile.TemporaryDirectory() as folder:
         program = Path(folder, "driver")
@@ -115,7 +122,7 @@ def tally_of(source):
         subprocess.run(["gcc", "-O1", "-o", program, f"-I{ROOT}/include", f"-I{ROOT}/tests/c",
                         ROOT / "tests/independent/driver.c", Path(folder, "plain.c")], check=True)
         driver, tally = Driver([program]), Tally(quiet=True)
-        tally.compare(CASES, EXPECTED, driver(CASES))
+        tally.compare(cases, expected, driver(cases))
         tally.end(driver)
     return tally
 
@@ -131,6 +138,13 @@ class WrongPrograms(unittest.TestCase):
     def test_reads_too_far(self):
         """The memory lent ends at a wall, so it is ended and answers nothing."""
         self.assertGreater(tally_of(replaced(*READS_TOO_FAR)).failed, 0)
+
+    def test_fast_engine_wrong_on_long_inputs(self):
+        """The fixtures notice it by themselves, and so do the systematic cases over a long one."""
+        for cases in (fixtures.cases(), long_cases(random.Random(SEED))):
+            cases = for_the_driver(cases)
+            expected = [answer_of(case) for case in cases]
+            self.assertGreater(tally_of(replaced(*WRONG_ON_LONG), cases, expected).failed, 0)
 
 
 def noticed(name):

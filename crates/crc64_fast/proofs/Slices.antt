@@ -4,18 +4,20 @@
 --   slices     of the four low bytes of a number each goes by itself
 --   halves     of a register the four low bytes go by themselves, and so do the four high ones
 --   pack       one more byte, as the code packs it: the shift loses nothing, and the digits are apart
+--   from-first a slice from its first byte on is the slice
 -- Assumes nothing.
-use mathlib.Core.Path.{_≡_, refl, sym, ap, ap₂, _∙_, subst}
-use mathlib.Core.List.{List, [], _∷_}
-use Prim.Native.Nat.{ℕ, zero, suc, _+_, _*_, _/_, _%_, _^_, _≤_, _<_}
+use mathlib.Core.Path.{_≡_, sym, ap, ap₂, _∙_, subst}
+use mathlib.Core.List.{List}
+use Prim.Native.Nat.{ℕ, zero, suc, _+_, _-_, _*_, _/_, _%_, _^_, _≤_, _<_}
 use native.Mathlib.Nat.{div-eq-of-lt, mod-lt, add-zero, lt-of-lt-of-le}
 use native.Mathlib.Numerals.{add-one}
 use native.Mathlib.Omega.{arith}
 use lib.Pow.{pow-mono, pow-pos, shr-shr, shl-exact, shl-lt, field, mod-mod-pow, shr-mod}
 use lib.Bits.{bitXor, bitOr, xor-zero-r, xor-comm, xor-lt, xor-shifted, or-shifted-r}
 use lib.Dec.{lit<}
-use lib.ListN.{length, getD}
-use Rattle.crc64.specs.Crc.{step, steps, byte, run}
+use lib.ListN.{length, getD, take, drop}
+use lib.Seq.{take-all}
+use Rattle.crc64.specs.Crc.{steps, byte, run}
 use Rattle.crc64.proofs.CrcLaws.{Reached, one-more}
 use Rattle.crc64_laws.proofs.Xor.{xor-assoc}
 use Rattle.crc64_laws.proofs.StepLaws.{byte-steps, cut, steps-none}
@@ -100,3 +102,6 @@ pack k b h bytes e f =
     ap₂ bitOr e (ap (λ (x : ℕ). x * 2 ^ m % 2 ^ 64) f ∙ shl-exact 8 m 64 (bytes k) (omega arith))
     ∙ or-shifted-r (b k) m (packed b k) (packed-lt b k bytes) ∙ sym (xor-shifted (b k) m (packed b k) (packed-lt b k bytes))
     ∙ xor-comm (b k * 2 ^ m) (packed b k) ∙ rw add-one
+
+pub from-first : (c : ℕ) (s : List ℕ) → run c (take (length s - 0) (drop 0 s)) ≡ run c s
+from-first c s = ap (run c) (take-all (length s - 0) s (omega arith))

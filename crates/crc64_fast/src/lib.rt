@@ -9,7 +9,7 @@ ghost use Rattle.crc64.specs.Crc.{steps, run, crc};
 ghost use Rattle.crc64_table.specs.Tables.{Tables};
 ghost use Rattle.crc64_fast.specs.Word.{packed};
 
-// The length in bytes from which the tables pay (docs/PERFORMANCE.md, "The checksum").
+// The length in bytes from which the tables are used. They pay from somewhat less on, if their code is in the caches (docs/PERFORMANCE.md, "The checksum").
 const PAYS: usize = 640;
 
 fn wide(b: u8) -> u64
@@ -90,7 +90,8 @@ fn with_tables(register: u64, s: &[u8]) -> u64
     by_tables(&t, register, s)
 }
 
-// The register after the bytes of s, from the register that stood before them.
+// The register after the bytes of s, from the register that stood before them. `with_tables` is lent `&s[0..]`, here and below, and not s: a slice
+// that is lent to a function of its own stands on the stack, and s would be put there before its length is looked at.
 #[no_mangle]
 pub extern "C" fn crc64_fast_on(register: u64, s: &[u8]) -> u64
     ensures { λ r. ⌜ r ≡ run register (now (s .entry)) ⌝ }
@@ -98,7 +99,7 @@ pub extern "C" fn crc64_fast_on(register: u64, s: &[u8]) -> u64
     if s.len() < PAYS {
         return crc64::crc64_plain_on(register, s);
     }
-    with_tables(register, s)
+    with_tables(register, &s[0..])
 }
 
 #[no_mangle]
@@ -108,5 +109,5 @@ pub extern "C" fn crc64_fast(s: &[u8]) -> u64
     if s.len() < PAYS {
         return crc64::crc64_plain(s);
     }
-    crc64::crc64_finish(with_tables(crc64::START, s))
+    crc64::crc64_finish(with_tables(crc64::START, &s[0..]))
 }

@@ -46,8 +46,8 @@ fn sort(
     key_join::join(kind, bytes, list, hints, numbers, m, spare);
 }
 
-// The numbers of as many items as there is room for, sorted by the items' keys; and the items' hints, which are left to compare by. Keys that
-// climb already, as those of a tidy segment do, cost one pass and no sort.
+// The numbers of as many items as there is room for, sorted by the items' keys; and the items' hints, which are left to compare by. Where
+// the keys climb already, as those of a tidy segment do, there is nothing to sort.
 pub fn sorted(
     kind: Kind,
     bytes: &[u8],

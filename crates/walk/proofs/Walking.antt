@@ -3,7 +3,7 @@
 use mathlib.Core.Path.{_≡_, sym, ap, ap₂, _∙_}
 use mathlib.Core.List.{List}
 use Prim.Native.Nat.{ℕ}
-use denote.Ref.{RefT, now}
+use denote.Ref.{RefT}
 use Rattle.segment.specs.declared.step.Step.{Step}
 use Rattle.segment.specs.Walk.{nextPlace, stepAnswer, stepOf}
 use Rattle.segment.proofs.StepSettled.{step-settled}
