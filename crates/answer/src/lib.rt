@@ -1,4 +1,6 @@
 // The refusals, and what check, look up, write and tidy answer. `answer_number::number` gives the number of a refusal's rule.
+#![tactic(auto)]
+
 use offset::FileOffset;
 
 // The rules that are refused by, each with a number of its own.

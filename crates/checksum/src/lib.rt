@@ -1,5 +1,7 @@
 // The checksum by the engine that a caller asks for. Both engines give the same number on every input, so no promise speaks of the engine,
 // here or in any service.
+#![tactic(auto)]
+
 ghost use Rattle.std.specs.Prelude.{◌≡◌};
 ghost use Rattle.crc64.specs.Crc.{run, crc};
 ghost use Rattle.checksum.specs.Parts.{crc_on};

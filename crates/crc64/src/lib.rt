@@ -1,6 +1,8 @@
 // The checksum of a segment: the reflected CRC-64 of the .xz file format. The plain engine goes bit by bit.
 // A long input may come in parts: begin at START, run each part on from the register that the part before left,
 // and finish.
+#![tactic(auto)]
+
 ghost use Rattle.std.specs.Prelude.{◌≡◌};
 ghost use Rattle.std.specs.Int.Bits.{bit_xor};
 ghost use Rattle.crc64.specs.Crc.{ones, step, byte, run, crc};

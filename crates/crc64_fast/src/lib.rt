@@ -1,6 +1,8 @@
 // The checksum by a fast engine, which takes eight bytes at a step: each of the eight goes through a table of its own, and what the tables
 // give is added up. What is left at the end, under eight bytes, goes to the plain engine, and so does an input that is too short for
 // the tables to pay: they are made on the stack at each call.
+#![tactic(auto)]
+
 ghost use Rattle.std.specs.Prelude.{◌≡◌, ◌+◌, ◌*◌, ◌%◌, ◌^◌, ◌≤◌, ◌<◌, length, get_or};
 ghost use Rattle.std.specs.Int.Bits.{bit_xor};
 ghost use Rattle.crc64.specs.Crc.{steps, run, crc};

@@ -1,5 +1,7 @@
 // The eight tables of 256 numbers by which the fast engine takes eight bytes at a step, one after the other in one list: number 256 * k + b
 // is what the byte b is after 8 * k + 8 steps of one bit.
+#![tactic(auto)]
+
 ghost use Rattle.crc64_table.specs.Tables.{Tables};
 
 // The tables by value: a caller lends them on, since a constant that is indexed where it stands is copied whole at each access.

@@ -1,5 +1,6 @@
 // Lists a segment: reads standard input and writes what `list_input` makes of it, as docs/SERVICES.md, "The listing", says. An
 // input that could not be read to its end is not listed: one line on standard error says why.
+#![tactic(auto)]
 ghost use Rattle.std.specs.Prelude.{◌≤◌, length};
 ghost use Rattle.listing.specs.Reading.{Within};
 

@@ -1,6 +1,8 @@
 // Little-endian numbers of one, two, four and eight bytes, read from a slice of bytes at a place, and put into one.
 // One of two bytes reads or puts bytes; each wider one is two halves, so one law over the width proves the readers and one the writers.
 // Whoever calls these shows that the place lies inside the slice; they know a number only as `num_at`, and what is left of one as `put`.
+#![tactic(auto)]
+
 ghost use Rattle.std.specs.Prelude.{◌≡◌, ◌+◌, ◌<◌, ◌≤◌, length};
 ghost use Rattle.numbers.specs.Numbers.{num_at, bytes_of, put};
 

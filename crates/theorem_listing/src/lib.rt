@@ -1,1 +1,2 @@
 // No code: the listing of a published case.
+#![tactic(auto)]

@@ -1,1 +1,2 @@
 // No code: programs that the promises rule out.
+#![tactic(auto)]

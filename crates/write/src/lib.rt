@@ -1,4 +1,5 @@
 // Write: the tidy form of what is asked for, or the first rule that the request breaks (docs/SERVICES.md, "Write").
+#![tactic(auto)]
 ghost use Rattle.std.specs.Prelude.{◌≡◌, true, length};
 ghost use Rattle.segment.specs.Format.{v3};
 ghost use Rattle.table.specs.Table.{good_table};

@@ -1,0 +1,15 @@
+-- `crc64_fast::word` meets its contract: after k turns k bytes are packed.
+use mathlib.Core.Path.{◌≡◌, refl, ap, ◌∙◌}
+use Prim.Native.Nat.{◌+◌, ◌-◌, ◌≤◌}
+use native.Mathlib.Omega.{arith}
+use borrow.Author.Rules.{rules}
+use lib.ListN.{get_or}
+use Rattle.crc64_fast.specs.Word.{packed}
+use Rattle.crc64_fast.proofs.Slices.{pack}
+use Rattle.crc64_fast.proofs.word.Given as goal
+
+abbrev pub invariant-loop-k : goal.invariant-loop-k
+invariant-loop-k l = (l.k ≤ 8) × (l.w ≡ packed (λ j. get_or l.s (l.i + j) 0) l.k)
+
+abbrev pub decreases-loop-k : goal.decreases-loop-k
+decreases-loop-k l = 8 - l.k
