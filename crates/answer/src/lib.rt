@@ -4,7 +4,7 @@
 use offset::FileOffset;
 
 // The rules that are refused by, each with a number of its own.
-#[derive(Drop)]
+#[derive(Clone, Copy)]
 pub enum Rule {
     Size,
     Magic,
@@ -30,25 +30,25 @@ pub enum Rule {
 }
 
 // The rule that is broken, and the place.
-#[derive(Drop)]
+#[derive(Clone, Copy)]
 pub struct Refusal(pub Rule, pub u64);
 
 // What check answers.
-#[derive(Drop)]
+#[derive(Clone, Copy)]
 pub enum Verdict {
     Accepted,
     Refused(Refusal),
 }
 
 // Where a record came from: nowhere else, or the domain that it was imported from.
-#[derive(Drop)]
+#[derive(Clone, Copy)]
 pub enum Source {
     None,
     Domain(u32),
 }
 
 // What look up answers. The extents of a present record are the `count` extents that begin at byte `start` of the segment.
-#[derive(Drop)]
+#[derive(Clone, Copy)]
 pub enum Found {
     Absent,
     Gone {
@@ -68,7 +68,7 @@ pub enum Found {
 }
 
 // What write and tidy answer: the result's length, or a refusal.
-#[derive(Drop)]
+#[derive(Clone, Copy)]
 pub enum Written {
     Done(u64),
     Refused(Refusal),

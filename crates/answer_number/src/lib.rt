@@ -1,5 +1,6 @@
 // A refusal in numbers: its number and its place (docs/SERVICES.md, "Refusals").
 #![tactic(auto)]
+
 ghost use Rattle.std.specs.Prelude.{◌≡◌};
 ghost use Rattle.answer.specs.Answers.{number_of, place_of};
 

@@ -16,7 +16,7 @@ use segment::record::Record;
 use segment::shape::Shape;
 
 // The lengths of some extents added up, or that one of them passes the end of its block.
-#[derive(Drop)]
+#[derive(Clone, Copy)]
 pub enum Sum {
     Of(u64),
     Past,

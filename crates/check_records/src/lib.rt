@@ -12,7 +12,7 @@ use segment::record::Record;
 use segment::shape::Shape;
 
 // What the pass over the records came to: the largest visibility, or the first refusal.
-#[derive(Drop)]
+#[derive(Clone, Copy)]
 pub enum Passed {
     Largest(u8),
     Refused(Refusal),

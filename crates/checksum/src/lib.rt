@@ -8,7 +8,7 @@ ghost use Rattle.checksum.specs.Parts.{crc_on};
 ghost use Rattle.checksum.specs.Asked.{engine_of};
 
 // The fast one is for a caller who does not choose.
-#[derive(Drop)]
+#[derive(Clone, Copy)]
 pub enum Engine {
     Fast,
     Plain,

@@ -49,7 +49,7 @@ fn four(t: &[u64; 2048], k: usize, x: u64) -> u64
 
 // A register in two parts, which add up to it: what its four low bytes gave and what its four high bytes gave. They are kept apart so that
 // neither sum waits for the other.
-#[derive(Drop)]
+#[derive(Clone, Copy)]
 struct Halves {
     low: u64,
     high: u64,

@@ -4,13 +4,13 @@ ghost use Rattle.std.specs.Prelude.{◌≡◌, ◌++◌, get_or};
 ghost use Rattle.key.specs.Heads.{head_numbers, lex};
 
 // The numbers of a key that stand before its digest.
-#[derive(Drop)]
+#[derive(Clone, Copy)]
 pub struct Head {
     pub hash_id: u64,
 }
 
 // How two lists of numbers stand to each other.
-#[derive(Drop)]
+#[derive(Clone, Copy)]
 pub enum Compared {
     Less,
     Equal,

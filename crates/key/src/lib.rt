@@ -15,7 +15,7 @@ use segment::shape::Shape;
 pub mod head;
 
 // The records of a shape that begin at a place in the segment, or the entries of a flat list, nine numbers each.
-#[derive(Drop)]
+#[derive(Clone, Copy)]
 pub enum Kind {
     Records(FileOffset, Shape),
     Entries,
@@ -25,7 +25,7 @@ pub enum Kind {
 pub const NO_LIST: [u64; 0] = [];
 
 // A part of the bytes: where it starts, and how long it is.
-#[derive(Drop)]
+#[derive(Clone, Copy)]
 pub struct Span {
     pub start: usize,
     pub size: usize,

@@ -15,7 +15,7 @@ use segment::record;
 use segment::shape::Shape;
 
 // Where the listing goes on, and where in the output.
-#[derive(Drop)]
+#[derive(Clone, Copy)]
 pub struct Stop {
     pub next: Place,
     pub end: usize,

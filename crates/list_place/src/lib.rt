@@ -6,7 +6,7 @@ ghost use Rattle.list_place.specs.Pieces.{is_first, is_done};
 
 // Where in the listing: at the count of the records, at a record's line, at the count of the extents, at the line of an extent of a
 // record, or at the end.
-#[derive(Drop)]
+#[derive(Clone, Copy)]
 pub enum Place {
     RecordCount,
     RecordLine(usize),

@@ -3,9 +3,9 @@
 #![tactic(auto)]
 
 // A place in the file: how many bytes stand before it.
-#[derive(Drop)]
+#[derive(Clone, Copy)]
 pub struct FileOffset(pub u64);
 
 // A place in a block.
-#[derive(Drop)]
+#[derive(Clone, Copy)]
 pub struct BlockOffset(pub u32);

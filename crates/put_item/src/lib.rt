@@ -151,7 +151,7 @@ pub fn record_for(
 }
 
 // What items come to: how many bytes their digests are, how many extents they have, and the largest visibility.
-#[derive(Drop)]
+#[derive(Clone, Copy)]
 pub struct Sizes {
     pub digests: u64,
     pub extents: u64,

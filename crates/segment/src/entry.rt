@@ -3,7 +3,7 @@ ghost use Rattle.std.specs.Prelude.{◌≡◌, ◌+◌, ◌*◌, ◌≤◌, ◌<
 ghost use Rattle.segment.specs.Format.{entry_size};
 ghost use Rattle.segment.specs.Write.{entry_no, entry_place};
 
-#[derive(Drop)]
+#[derive(Clone, Copy)]
 pub struct Entry {
     pub hash_id: u64,
     pub digest_start: u64,

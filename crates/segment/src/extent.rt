@@ -4,7 +4,7 @@ ghost use Rattle.segment.specs.Format.{extent_size, extent_of};
 
 use offset::{BlockOffset, FileOffset};
 
-#[derive(Drop)]
+#[derive(Clone, Copy)]
 pub struct Extent {
     pub block: u64,
     pub offset: BlockOffset,

@@ -4,7 +4,7 @@ ghost use Rattle.segment.specs.Format.{footer_size, footer_of};
 
 use offset::FileOffset;
 
-#[derive(Drop)]
+#[derive(Clone, Copy)]
 pub struct Footer {
     pub checksum: u64,
     pub seal_snapshot: u64,

@@ -5,7 +5,7 @@ ghost use Rattle.segment.specs.Check.{bloom_place};
 
 use offset::FileOffset;
 
-#[derive(Drop)]
+#[derive(Clone, Copy)]
 pub struct Header {
     pub magic: u64,
     pub version: u16,
@@ -29,7 +29,7 @@ pub struct Header {
 }
 
 // The numbers of a segment that speak of neither its sections nor its records; the last two stand in the footer.
-#[derive(Drop)]
+#[derive(Clone, Copy)]
 pub struct Heading {
     pub shard: u16,
     pub snapshot_min: u64,

@@ -7,7 +7,7 @@ use crate::shape::Shape;
 use field_record::record as fields;
 use offset::FileOffset;
 
-#[derive(Drop)]
+#[derive(Clone, Copy)]
 pub struct Record {
     pub hash_id: u32,
     pub digest_length: u16,

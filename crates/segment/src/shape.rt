@@ -2,7 +2,7 @@
 // where a service begins and nowhere below.
 use crate::record::Record;
 
-#[derive(Drop)]
+#[derive(Clone, Copy)]
 pub struct Shape {
     pub magic: u64,
     pub version: u16,

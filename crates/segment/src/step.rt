@@ -2,7 +2,7 @@
 use crate::record::Record;
 use answer::Refusal;
 
-#[derive(Drop)]
+#[derive(Clone, Copy)]
 pub enum Step {
     Row(Record),
     Done,

@@ -1,6 +1,7 @@
 // The store's table: pairs of a hash id and a digest length, lent as a flat list of numbers, and copied into a table
 // by value, an array of 32 numbers. Everyone asks it one question: does it allow this hash id with this length.
 #![tactic(auto)]
+
 ghost use Rattle.std.specs.Prelude.{◌≡◌, ◌≤◌, length};
 ghost use Rattle.table.specs.Table.{stands, good_pairs, good_table, allows, by_value};
 

@@ -18,7 +18,7 @@ use segment::record;
 use segment::shape::Shape;
 
 // What the records come to: how many bytes their digests are, and how many extents they have.
-#[derive(Drop)]
+#[derive(Clone, Copy)]
 pub struct Sums {
     pub digests: u64,
     pub extents: u64,

@@ -13,7 +13,7 @@ use segment::shape::Shape;
 use segment::step::Step;
 
 // What a step answers, and the place after it.
-#[derive(Drop)]
+#[derive(Clone, Copy)]
 pub struct Turn {
     pub step: Step,
     pub at: usize,
