@@ -74,15 +74,12 @@ two-stores : (s : List ℕ) (k v w : ℕ) → k + 1 < length s → set (set s k 
 unfolding put
 two-stores s k v w h = rw add-one (sets-eq (v ∷ w ∷ []) s k (omega arith))
 
--- a word copied to the front of what is lent from a place on
-pub lent : (s word q : List ℕ) (at : ℕ) → at + length word ≤ length s → q ≡ take (length word) word ++ drop (length word) (mid_of at (length s - at) s)
-    → put_mid at (length s - at) s q ≡ put s at word
+-- a word copied into what is lent for it
+pub lent : (s word q : List ℕ) (at : ℕ) → q ≡ word → put_mid at (at + length word - at) s q ≡ put s at word
 unfolding put
-lent s word q at h e =
-    let m : take (length s - at) (drop at s) ≡ drop at s = take_all (length s - at) (drop at s) (simp length-drop (omega arith)) in
-    let r : drop (length s - at) (drop at s) ≡ [] = drop_of_length-le (drop at s) {i = length s - at} (simp length-drop (omega arith)) in
-    let w : take (length word) word ≡ word = take_all (length word) word (omega arith) in
-    rw (e, m, r, w, drop-drop (length word) at s, append-nil) (sym (append_assoc (take at s) word (drop (at + length word) s)))
+lent s word q at e =
+    let n : at + length word - at ≡ length word = omega arith in
+    rw (n, e, drop-drop (length word) at s) (sym (append_assoc (take at s) word (drop (at + length word) s)))
 
 -- ---- one behind the other
 

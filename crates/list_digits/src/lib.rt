@@ -9,7 +9,7 @@ pub fn put_word(word: &[u8], end: u8, at: usize, out: &mut [u8]) -> usize
     requires { at + length word.now < length out.old }
     ensures { Appended (length word.now + 1) out.old at (word.now ++ (end ∷ [])) out.new result }
 {
-    bytes::copy(word, &mut out[at..]);
+    out[at..at + word.len()].copy_from_slice(word);
     let behind = at + word.len();
     out[behind] = end;
     behind + 1

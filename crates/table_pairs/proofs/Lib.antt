@@ -1,3 +1,2 @@
 pub mod Looking
 pub mod Agreeing
-pub mod Bodies

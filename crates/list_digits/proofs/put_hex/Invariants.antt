@@ -1,0 +1,12 @@
+-- `list_digits::put_hex` meets its contract: i bytes are spelled.
+use Prim.Native.Nat.{◌-◌}
+use native.Mathlib.Omega.{arith}
+use lib.ListN.{length, length-set}
+use Rattle.list_digits.proofs.TextLaws.{Spelling, spelling-start, spelling-more, spelling-done}
+use Rattle.list_digits.proofs.put_hex.Given as goal
+
+abbrev pub invariant-loop-i : goal.invariant-loop-i
+invariant-loop-i l = Spelling l.digest l.initial.out l.at l.i l.out l.stop
+
+abbrev pub decreases-loop-i : goal.decreases-loop-i
+decreases-loop-i l = length l.digest - l.i
