@@ -1,6 +1,7 @@
 // Keys of items, over two kinds of source: the records of a segment, and the entries that write is lent. Both kinds have their
 // digests in a run of bytes. One function for each column knows the kinds; nothing above it does.
 #![tactic(auto)]
+
 ghost use Rattle.std.specs.Prelude.{◌≡◌, ◌+◌, ◌≤◌, ◌<◌, length};
 ghost use Rattle.segment.specs.Format.{least_record};
 ghost use Rattle.key.specs.Items.{record_span, entry_span, Item, item_hash, item_head, item_span, item_digest, item_place};

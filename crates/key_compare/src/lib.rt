@@ -1,5 +1,6 @@
 // Keys in their order: which of two lists of bytes is the lesser, which of two keys, and which of two items comes first.
 #![tactic(auto)]
+
 ghost use Rattle.std.specs.Prelude.{◌≡◌};
 ghost use Rattle.segment.specs.Keys.{key_of};
 ghost use Rattle.key.specs.Items.{Item, item_key};

@@ -1,5 +1,6 @@
 // Keys told apart: those of two items, and an item's from a given one.
 #![tactic(auto)]
+
 ghost use Rattle.std.specs.Prelude.{◌≡◌};
 ghost use Rattle.lists.specs.Lists.{eq_list};
 ghost use Rattle.segment.specs.Keys.{key_of, same_key};

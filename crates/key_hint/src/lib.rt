@@ -1,6 +1,7 @@
 // A hint of each item's key: a number that stands in a short list of its own and decides most comparisons by itself. The keys lie far
 // apart, an item here and its digest there, and a sort that looks at them each time waits for memory.
 #![tactic(auto)]
+
 ghost use Rattle.std.specs.Prelude.{◌≡◌, length};
 ghost use Rattle.segment.specs.Keys.{key_of};
 ghost use Rattle.key.specs.Heads.{head_key};

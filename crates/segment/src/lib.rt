@@ -1,6 +1,7 @@
 // The parts of a segment as docs/FORMAT.md lays them out: the four kinds with their sizes and constructors, the shape of a
 // version, an entry of write, and a step of the walk. What the fields and the services mean is written in specs/.
 #![tactic(auto)]
+
 ghost use Rattle.std.specs.Prelude.{◌≡◌, ◌+◌, ◌≤◌};
 ghost use Rattle.segment.specs.Tidy.{lacking};
 

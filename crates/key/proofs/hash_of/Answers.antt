@@ -1,0 +1,20 @@
+-- `key::hash_of` meets its contract: each kind's own column.
+use native.Mathlib.Omega.{arith}
+use borrow.Author.Rules.{rules}
+use Rattle.key.proofs.KeyColumns.{record-stands, record-fields, entry-stands, record-hash, entry-hash}
+use Rattle.key.proofs.hash_of.Goals as goal
+
+pub begins-requires : goal.begins-requires
+begins-requires c = let s = record-stands _ _ _ _ _ _ c.in-Records.is c.requires in omega (arith, s.inside)
+
+pub hash_id-requires : goal.hash_id-requires
+hash_id-requires c = record-fields _ _ _ _ _ _ _ c.in-Records.is c.requires (omega (arith, c.begins.ensures))
+
+pub at-requires : goal.at-requires
+at-requires c = let s = entry-stands _ _ _ _ (cc) c.requires in omega arith
+
+pub returns-in-Records : goal.returns-in-Records
+returns-in-Records c = record-hash _ _ _ _ _ _ c.in-Records.is c.begins.ensures c.hash_id.ensures
+
+pub returns-in-Entries : goal.returns-in-Entries
+returns-in-Entries c = entry-hash _ _ _ _ (cc) c.at.ensures

@@ -1,0 +1,21 @@
+-- `key_merge::merge` meets its contract: what is passed is merged, and the merge of the rest is still to be written.
+use Prim.Native.Nat.{◌+◌, ◌≤◌, ◌-◌}
+use mathlib.Core.Path.{◌≡◌}
+use mathlib.Core.List.{◌++◌}
+use native.Mathlib.Omega.{arith}
+use lib.ListN.{length, take, drop}
+use borrow.Author.Rules.{rules}
+use Rattle.key.specs.ItemOrder.{item_leq}
+use Rattle.lists.specs.Lists.{merge_by}
+use Rattle.key_merge.proofs.Merging.{left-stands, right-stands, merge-starts, next-left, next-right, merged}
+use Rattle.key_merge.proofs.merge.Given as goal
+
+abbrev pub invariant-loop-i : goal.invariant-loop-i
+invariant-loop-i l =
+    (l.i ≤ length l.a)
+    × (l.j ≤ length l.b)
+    × (length l.out ≡ length l.initial.out)
+    × (merge_by (item_leq l.kind l.bytes l.list) l.a l.b ≡ take (l.i + l.j) l.out ++ merge_by (item_leq l.kind l.bytes l.list) (drop l.i l.a) (drop l.j l.b))
+
+abbrev pub decreases-loop-i : goal.decreases-loop-i
+decreases-loop-i l = length l.a + length l.b - (l.i + l.j)
