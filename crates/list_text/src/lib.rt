@@ -1,5 +1,6 @@
 // The listing of a segment: as many whole pieces at a time as there is room for.
 #![tactic(auto)]
+
 ghost use Rattle.std.specs.Prelude.{length};
 ghost use Rattle.segment.specs.Format.{v3, header_of};
 ghost use Rattle.segment.specs.Meaning.{meaning_of};

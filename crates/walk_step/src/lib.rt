@@ -1,6 +1,7 @@
 // The steps of the walk, on a slice and a place in it. Each step is lent the table and makes the whole check, so that a record is
 // given of an accepted segment only.
 #![tactic(auto)]
+
 ghost use Rattle.std.specs.Prelude.{◌≡◌};
 ghost use Rattle.segment.specs.Walk.{stepped};
 ghost use Rattle.walk_step.specs.Steps.{turn_of};

@@ -1,5 +1,6 @@
 // Write: the tidy form of what is asked for, or the first rule that the request breaks (docs/SERVICES.md, "Write").
 #![tactic(auto)]
+
 ghost use Rattle.std.specs.Prelude.{◌≡◌, true, length};
 ghost use Rattle.segment.specs.Format.{v3};
 ghost use Rattle.table.specs.Table.{good_table};

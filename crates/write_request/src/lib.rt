@@ -1,6 +1,7 @@
 // The check of what write is lent, between the table and the size: 16 for the entry count, 51 for the bloom bytes, the
 // entries by number, and 12.
 #![tactic(auto)]
+
 ghost use Rattle.std.specs.Prelude.{◌≡◌};
 ghost use Rattle.answer.specs.Rules.{first_over};
 ghost use Rattle.segment.specs.Write.{entry_count, entry_rules, entry_verdict, request_rules};

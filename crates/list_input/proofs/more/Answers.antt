@@ -1,0 +1,27 @@
+-- `list_input::more` meets its contract: what is put is the part of what the input is.
+use mathlib.Core.Path.{◌∙◌, refl}
+use native.Mathlib.Omega.{arith}
+use borrow.Author.Rules.{rules}
+use Rattle.check_book.proofs.Readable.{checked-readable}
+use Rattle.list_digits.proofs.TextLaws.{nothing}
+use Rattle.list_input.proofs.PartLaws.{part-full, part-long, part-refused, part-listed, check-told, part-told}
+use Rattle.list_input.proofs.more.Goals as goal
+
+pub returns-then-out-lt-LONGEST : goal.returns-then-out-lt-LONGEST
+returns-then-out-lt-LONGEST c = part-told _ _ _ _ _ 0 _ (part-full _ _ _ (omega (arith, c.if-out-lt-LONGEST.true))) (omega arith) (record { put = nothing 0 _ 0 (omega arith); next = refl })
+
+pub returns-then-input-gt-MOST : goal.returns-then-input-gt-MOST
+returns-then-input-gt-MOST c = part-told _ _ _ _ _ _ _ (part-long _ _ _ (omega (arith, c.if-out-lt-LONGEST.false)) (omega (arith, c.if-input-gt-MOST.true))) (omega (arith, c.if-out-lt-LONGEST.false)) c.put_long.ensures
+
+pub fill-requires : goal.fill-requires
+fill-requires c = checked-readable _ _ (check-told _ _ _ c.check_by.ensures ∙ c.in-Accepted.is)
+
+pub returns-in-Refused : goal.returns-in-Refused
+returns-in-Refused c = part-told _ _ _ _ _ _ _
+    (part-refused _ _ _ (omega (arith, c.if-out-lt-LONGEST.false)) (omega (arith, c.if-input-gt-MOST.false)) _ (check-told _ _ _ c.check_by.ensures ∙ c.in-Refused.is))
+    (omega (arith, c.if-out-lt-LONGEST.false)) c.Put-refused.ensures
+
+pub returns-in-Accepted : goal.returns-in-Accepted
+returns-in-Accepted c = part-told _ _ _ _ _ _ _
+    (part-listed _ _ _ (omega (arith, c.if-out-lt-LONGEST.false)) (omega (arith, c.if-input-gt-MOST.false)) (check-told _ _ _ c.check_by.ensures ∙ c.in-Accepted.is))
+    (omega arith) c.fill.ensures
