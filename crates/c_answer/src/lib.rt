@@ -1,6 +1,7 @@
 // What stands at the C boundary below the entry points: the answers as C is given them, one number each, and numbers that are left in a
 // lent slice of bytes.
 #![tactic(auto)]
+
 ghost use Rattle.std.specs.Prelude.{◌≡◌, ◌*◌, ◌≤◌, ◌<◌, length};
 ghost use Rattle.numbers.specs.Numbers.{put};
 ghost use Rattle.answer.specs.Answers.{place_of, written_answer};

@@ -1,5 +1,6 @@
 // The store's table as C lends it: bytes, eight to a number, which are put together into a table by value.
 #![tactic(auto)]
+
 ghost use Rattle.std.specs.Prelude.{◌≡◌, length};
 ghost use Rattle.table.specs.Table.{by_value};
 ghost use Rattle.c_table.specs.Lent.{taken};

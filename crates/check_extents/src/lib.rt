@@ -1,5 +1,6 @@
 // The rules of a record's extents and total: 9 and 10.
 #![tactic(auto)]
+
 ghost use Rattle.std.specs.Prelude.{◌≡◌, ◌+◌, ◌*◌, ◌<◌, ◌≤◌, ltb, length};
 ghost use Rattle.answer.specs.declared.Verdict.TheVariants.{Accepted};
 ghost use Rattle.segment.specs.Format.{extent_size, block_end, extents_at};

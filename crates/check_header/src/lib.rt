@@ -1,5 +1,6 @@
 // The header's rules: 2, 3, 4 and 51 to 55, and the checksum, 6. Sums are compared by taking parts away, so nothing wraps.
 #![tactic(auto)]
+
 ghost use Rattle.std.specs.Prelude.{◌≡◌, ◌+◌, ◌*◌, ◌≤◌, eqb, length};
 ghost use Rattle.segment.specs.Format.{extent_size, footer_size};
 ghost use Rattle.segment.specs.Shapes.{Shaped};

@@ -1,5 +1,6 @@
 // Two parts of a list of item numbers, merged by the items' keys and left in their place.
 #![tactic(auto)]
+
 ghost use Rattle.std.specs.Prelude.{◌≡◌, ◌≤◌, length, take, drop};
 ghost use Rattle.key.specs.ItemOrder.{item_leq};
 ghost use Rattle.key_merge.specs.Order.{AllHinted};

@@ -1,6 +1,7 @@
 // The lines of the listing that hold words and numbers alone, each put at a place of a lent run of bytes. Each function is told
 // that there is room for the longest such line, and answers the place after it.
 #![tactic(auto)]
+
 ghost use Rattle.std.specs.Prelude.{[], ◌∷◌, ◌++◌, ◌+◌, ◌≤◌, length};
 ghost use Rattle.list_digits.specs.Digits.{decimal, Appended};
 ghost use Rattle.list_columns.specs.Listing.{cell, count_line, extent_line, refusal_line};

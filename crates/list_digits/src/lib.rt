@@ -1,6 +1,7 @@
 // Words, numbers and bytes put as text into a lent run of bytes. Each function is told that there is room; it puts its text and
 // one byte behind it, and answers the place after that.
 #![tactic(auto)]
+
 ghost use Rattle.std.specs.Prelude.{◌≡◌, [], ◌∷◌, ◌++◌, ◌+◌, ◌*◌, ◌≤◌, ◌<◌, length};
 ghost use Rattle.io.specs.Digits.{hex_digit_ascii as Digits·glyph};
 ghost use Rattle.list_digits.specs.Digits.{decimal, hex, Appended};

@@ -1,6 +1,7 @@
 // The places of a listing. Records may share extents, so that the listing of 64 KiB can be tens of megabytes long: it is put from place
 // to place into whatever room is lent.
 #![tactic(auto)]
+
 ghost use Rattle.std.specs.Prelude.{◌≡◌};
 ghost use Rattle.list_place.specs.Pieces.{is_first, is_done};
 

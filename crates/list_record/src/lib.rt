@@ -1,6 +1,7 @@
 // A record's line of the listing, put at a place of a lent run of bytes. Each function is told that there is room for the longest
 // such part of the line, and answers the place after it.
 #![tactic(auto)]
+
 ghost use Rattle.std.specs.Prelude.{◌++◌, ◌+◌, ◌≤◌, length};
 ghost use Rattle.list_digits.specs.Digits.{decimal, hex, Appended};
 ghost use Rattle.list_columns.specs.Listing.{cell};

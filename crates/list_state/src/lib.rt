@@ -1,6 +1,7 @@
 // How a record stands, as the listing says it: its state, its visibility and its source, put at a place of a lent run of bytes.
 // Each function is told that there is room for its longest words, and answers the place after them.
 #![tactic(auto)]
+
 ghost use Rattle.std.specs.Prelude.{◌+◌, ◌≤◌, length, eqb};
 ghost use Rattle.segment.specs.Meaning.{source_of};
 ghost use Rattle.list_digits.specs.Digits.{Appended};

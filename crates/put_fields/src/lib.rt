@@ -1,6 +1,7 @@
 // The four structures put into bytes, field after field as docs/FORMAT.md lists them: the other half of their readers. A structure of
 // many fields is put group by group. Each function is told that the structure fits where it is put.
 #![tactic(auto)]
+
 ghost use Rattle.std.specs.Prelude.{◌≡◌, ◌+◌, ◌≤◌, length};
 ghost use Rattle.numbers.specs.Numbers.{bytes_of, put};
 ghost use Rattle.segment.specs.Format.{header_size, least_record, record_bytes, extent_size, footer_size};

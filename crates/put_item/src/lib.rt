@@ -1,6 +1,7 @@
 // What is written of an item, over the two kinds of source: the records of a segment, and the entries that write is lent. One function
 // for each column knows the kinds; those who write do not.
 #![tactic(auto)]
+
 ghost use Rattle.std.specs.Prelude.{◌≡◌, ◌+◌, ◌*◌, ◌≤◌, ◌<◌, max, cond, eqb, length};
 ghost use Rattle.segment.specs.Format.{record_limit, listed_size};
 ghost use Rattle.segment.specs.Check.{sum_lengths};

@@ -1,6 +1,7 @@
 // The tidy form of items: their numbers sorted by key, and the items written in that order. The numbers and the hints of the keys
 // stand in arrays on the stack, small ones for a small segment, so that it does not pay for the largest.
 #![tactic(auto)]
+
 ghost use Rattle.std.specs.Prelude.{◌≡◌, ◌≤◌, length};
 ghost use Rattle.segment.specs.Format.{record_limit};
 ghost use Rattle.segment.specs.Shapes.{Shaped};

@@ -1,5 +1,6 @@
 // The store's table as a lent slice of pairs, and the digest length that it has for a hash id.
 #![tactic(auto)]
+
 ghost use Rattle.std.specs.Prelude.{◌≡◌};
 ghost use Rattle.table_pairs.specs.Pairs.{length_answer, length_of};
 

@@ -19,7 +19,7 @@ overflow_cast-b c = omega (arith, c.shared_slice_known-7-1.given c.args.j)
 
 pub hinted_first-requires : goal.hinted_first-requires
 hinted_first-requires c =
-    (each_at _ _ _ c.requires.0 (omega arith), each_at _ _ _ c.requires.1 (omega arith))
+    record { hinted = each_at _ _ _ c.requires.all_hinted (omega arith); hinted_2 = each_at _ _ _ c.requires.all_hinted_2 (omega arith) }
 
 pub returns : goal.returns
 returns c = search test-decides

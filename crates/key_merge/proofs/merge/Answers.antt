@@ -21,7 +21,7 @@ loop-i-preserved-then-left_next c =
     let e = c.left_next.ensures in
     let h = left-stands _ _ _ c.loop-i.i c.loop-i.j _ e c.if-left_next.true in
     let v = c.loop-i.invariant in
-    (omega arith, omega arith, search rules, next-left _ _ _ _ c.args.out.now c.loop-i.i c.loop-i.j v.3 c.requires.1.1 v.2 _ e c.if-left_next.true (omega arith))
+    (omega arith, omega arith, search rules, next-left _ _ _ _ c.args.out.now c.loop-i.i c.loop-i.j v.3 c.requires.b_in_bounds v.2 _ e c.if-left_next.true (omega arith))
 
 pub bounds-b-j : goal.bounds-b-j
 bounds-b-j c = search right-stands
@@ -31,7 +31,7 @@ loop-i-preserved c =
     let e = c.left_next.ensures in
     let h = right-stands _ _ _ c.loop-i.i c.loop-i.j _ e c.if-left_next.false (omega arith) (omega arith) in
     let v = c.loop-i.invariant in
-    (omega arith, omega arith, search rules, next-right _ _ _ _ c.args.out.now c.loop-i.i c.loop-i.j v.3 c.requires.1.1 v.2 _ e c.if-left_next.false (omega arith) (omega arith))
+    (omega arith, omega arith, search rules, next-right _ _ _ _ c.args.out.now c.loop-i.i c.loop-i.j v.3 c.requires.b_in_bounds v.2 _ e c.if-left_next.false (omega arith) (omega arith))
 
 pub returns : goal.returns
 returns c = search merged

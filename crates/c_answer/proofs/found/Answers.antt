@@ -1,0 +1,10 @@
+-- `c_answer::found` meets its contract: with a source or without.
+use borrow.Author.Rules.{rules}
+use Rattle.c_answer.proofs.Replies.{of_none, of-domain}
+use Rattle.c_answer.proofs.found.Goals as goal
+
+pub returns-in-None : goal.returns-in-None
+returns-in-None c = of_none _ _ _ _ _ _ _ c.in-None.is
+
+pub returns-in-Domain : goal.returns-in-Domain
+returns-in-Domain c = of-domain _ _ _ _ _ _ _ c.in-Domain.from c.in-Domain.is

@@ -1,0 +1,13 @@
+-- `check_extents::sum_extents` meets its contract: what is left of the extents decides.
+use Prim.Native.Nat.{◌-◌}
+use mathlib.Core.Path.{sym, ◌∙◌}
+use borrow.Author.Rules.{rules}
+use native.Mathlib.Omega.{arith}
+use Rattle.check_extents.proofs.ExtentRows.{Summing, sum-start, sum_past, sum_more, sum_done}
+use Rattle.check_extents.proofs.sum_extents.Given as goal
+
+abbrev pub invariant-loop-i : goal.invariant-loop-i
+invariant-loop-i l = Summing l.seg l.at.0 l.count l.i l.sum
+
+abbrev pub decreases-loop-i : goal.decreases-loop-i
+decreases-loop-i l = l.count - l.i

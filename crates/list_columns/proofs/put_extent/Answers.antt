@@ -1,0 +1,10 @@
+-- `list_columns::put_extent` meets its contract: column after column.
+use native.Mathlib.Omega.{arith}
+use borrow.Author.Rules.{rules}
+use Rattle.list_digits.proofs.TextLaws.{retold}
+use Rattle.list_columns.proofs.ColumnLaws.{two, extent-line}
+use Rattle.list_columns.proofs.put_extent.Goals as goal
+
+pub returns : goal.returns
+returns c =
+    retold (two c.put_pair-p1.ensures c.put_slice.ensures 105 (omega arith)) (extent-line _ _ _) (omega arith)

@@ -1,0 +1,9 @@
+-- `list_columns::put_named` meets its contract: the name, and the number.
+use native.Mathlib.Omega.{arith}
+use borrow.Author.Rules.{rules}
+use Rattle.list_columns.proofs.ColumnLaws.{two}
+use Rattle.list_columns.proofs.put_named.Goals as goal
+
+pub returns : goal.returns
+returns c =
+    two c.put_word-p1.ensures c.put_number.ensures _ (omega arith)

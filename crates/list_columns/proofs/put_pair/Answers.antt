@@ -1,0 +1,9 @@
+-- `list_columns::put_pair` meets its contract: one number, and the other.
+use native.Mathlib.Omega.{arith}
+use borrow.Author.Rules.{rules}
+use Rattle.list_columns.proofs.ColumnLaws.{two}
+use Rattle.list_columns.proofs.put_pair.Goals as goal
+
+pub returns : goal.returns
+returns c =
+    two c.put_number-p1.ensures c.put_number.ensures 42 (omega arith)

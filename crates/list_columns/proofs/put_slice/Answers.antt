@@ -1,0 +1,11 @@
+-- `list_columns::put_slice` meets its contract: column after column.
+use native.Mathlib.Omega.{arith}
+use borrow.Author.Rules.{rules}
+use Rattle.list_columns.specs.Columns.{slice_cells}
+use Rattle.list_columns.proofs.ColumnLaws.{two}
+use Rattle.list_columns.proofs.put_slice.Goals as goal
+
+pub returns : goal.returns
+unfolding slice_cells
+returns c =
+    two c.put_pair-p1.ensures c.put_number.ensures 63 (omega arith)

@@ -1,0 +1,9 @@
+-- `list_record::put_identity` meets its contract: column after column.
+use native.Mathlib.Omega.{arith}
+use borrow.Author.Rules.{rules}
+use Rattle.list_columns.proofs.ColumnLaws.{two}
+use Rattle.list_record.proofs.put_identity.Goals as goal
+
+pub returns : goal.returns
+returns c =
+    two c.put_pair-p1.ensures c.put_hex.ensures 2091 (omega arith)

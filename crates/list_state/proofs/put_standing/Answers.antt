@@ -1,0 +1,11 @@
+-- `list_state::put_standing` meets its contract: column after column.
+use native.Mathlib.Omega.{arith}
+use borrow.Author.Rules.{rules}
+use Rattle.list_columns.specs.Columns.{standing_cells}
+use Rattle.list_columns.proofs.ColumnLaws.{three}
+use Rattle.list_state.proofs.put_standing.Goals as goal
+
+pub returns : goal.returns
+unfolding standing_cells
+returns c =
+    three c.put_state-p1.ensures c.put_visibility-p2.ensures c.put_source.ensures 36 (omega arith)

@@ -1,0 +1,12 @@
+-- `put_fields::put_owner` meets its contract: field after field.
+use native.Mathlib.Omega.{arith}
+use borrow.Author.Rules.{rules}
+use Rattle.put_fields.specs.Groups.{owner_fields}
+use Rattle.form_laws.proofs.PackedFields.{widths}
+use Rattle.put_fields.proofs.Packing.{field-first, field_next}
+use Rattle.put_fields.proofs.put_owner.Goals as goal
+
+pub returns : goal.returns
+unfolding owner_fields widths
+returns c =
+    (field_next (field_next (field_next (field-first _ _ _ 4 _ c.put_u32.ensures) _ _ 1 _ c.put_u8.ensures (omega arith) (omega arith)) _ _ 1 _ c.put_u8-2.ensures (omega arith) (omega arith)) _ _ 2 _ c.put_u16.ensures (omega arith) (omega arith)).done

@@ -1,0 +1,21 @@
+-- `put_form::put_body` meets its contract: header, bloom bytes and sections, one behind the other.
+use native.Mathlib.Omega.{arith}
+use borrow.Author.Rules.{rules}
+use Rattle.put_form.proofs.Body.{head-room, long₁, same-plan, body-done}
+use Rattle.put_form.proofs.put_body.Goals as goal
+
+pub put_header-requires : goal.put_header-requires
+put_header-requires c = let a = c.args in
+    omega (arith, head-room _ c.requires.shaped a.h a.bloom.now _ _ a.out.now c.requires.plan c.requires.h_value)
+
+pub copy_bytes-requires : goal.copy_bytes-requires
+copy_bytes-requires c = let a = c.args in
+    omega (arith, head-room _ c.requires.shaped a.h a.bloom.now _ _ a.out.now c.requires.plan c.requires.h_value, long₁ _ c.requires.shaped a.h a.bloom.now _ _ a.out.now c.requires.plan c.requires.h_value _ c.put_header.ensures)
+
+pub put_sections-requires : goal.put_sections-requires
+put_sections-requires c = let a = c.args in
+    record { lines = c.requires.lines; shaped = c.requires.shaped; plan = same-plan _ c.requires.shaped a.h a.bloom.now _ _ a.out.now c.requires.plan c.requires.h_value _ c.put_header.ensures _ c.copy_bytes.ensures }
+
+pub returns : goal.returns
+returns c = let a = c.args in
+    body-done _ c.requires.shaped a.h a.bloom.now _ _ a.out.now c.requires.plan c.requires.h_value _ c.put_header.ensures _ c.copy_bytes.ensures _ c.put_sections.ensures

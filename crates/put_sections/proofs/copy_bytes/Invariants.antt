@@ -1,0 +1,12 @@
+-- `put_sections::copy_bytes` meets its contract: i bytes are copied.
+use Prim.Native.Nat.{◌-◌}
+use native.Mathlib.Omega.{arith}
+use lib.ListN.{length}
+use Rattle.numbers.proofs.Copies.{Copying, copying-start, copying-more, copying-done}
+use Rattle.put_sections.proofs.copy_bytes.Given as goal
+
+abbrev pub invariant-loop-i : goal.invariant-loop-i
+invariant-loop-i l = Copying l.from l.initial.out l.at l.i l.out
+
+abbrev pub decreases-loop-i : goal.decreases-loop-i
+decreases-loop-i l = length l.from - l.i
