@@ -19,6 +19,9 @@ root = pathlib.Path(__file__).resolve().parents[2]
 
 MAY_NAME_THE_PAPER = {"README.md", "docs/DECISIONS.md"}
 NOT_OURS = {".git", "target"}
+MADE = re.compile(r"crates/\w+/out")
+# A change that was set aside, as a patch: the lines that differ, which are no text of ours until it is applied.
+SET_ASIDE = {"docs/unfinished.patch"}
 
 GAP = r"(?:\s+(?:(?://|--|#|\*)\s+)?)"  # between two words of a comment or a page
 QUOTED = r"\"[^\"]+\"|'[^']+'"
@@ -29,14 +32,27 @@ PAPER = re.compile(rf"\b[Dd]ocuments?{GAP}0\d+")
 Case = collections.namedtuple("Case", "path line text wrong")  # wrong says why, or is None
 
 
+def files_below(folder):
+    """Every file of the repository below a folder, none of what is made: target/ and crates/NAME/out/."""
+    for path in folder.iterdir():
+        name = path.relative_to(root).as_posix()
+        if name in NOT_OURS or MADE.fullmatch(name):
+            continue
+        if path.is_file():
+            yield path
+        elif path.is_dir():
+            yield from files_below(path)
+
+
 def texts():
     """The text of every file of the repository, by its path, but of this one, which has wrong citations."""
-    tops = [top for top in root.iterdir() if top.name not in NOT_OURS]
-    paths = {path for top in tops for path in (top, *top.rglob("*")) if path.is_file()}
     found = {}
-    for path in sorted(paths - {pathlib.Path(__file__).resolve()}):
+    for path in sorted({*files_below(root)} - {pathlib.Path(__file__).resolve()}):
+        name = path.relative_to(root).as_posix()
+        if name in SET_ASIDE:
+            continue
         try:
-            found[path.relative_to(root).as_posix()] = path.read_text(encoding="utf-8")
+            found[name] = path.read_text(encoding="utf-8")
         except UnicodeDecodeError:
             pass  # a segment
     return found

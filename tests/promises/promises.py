@@ -27,11 +27,11 @@ PAGE = "docs/PROMISES.md"
 TEXT = {
     "too long",           # what the listing prints
     "NN-..",              # how the names of fixtures begin
-    "answer r ≡ xOf ..",  # the form of a promise
+    "answer result ≡ x_of ..",  # the form of a promise
     "requires",           # a word of Rattle
 }
 
-WORD = r"[^\W\d][\w·′-]*"
+WORD = r"(?:[^\W\d]|◌)[\w·'◌-]*"  # an operator has ◌ where its arguments stand
 QUOTED = r"`[^`]+`"
 LIST = rf"{QUOTED}(?:(?:, and |, | and ){QUOTED})*"
 NAMED_IN = re.compile(rf"({LIST}) (?:in|of) (?=({LIST}))")
@@ -62,10 +62,19 @@ Name = collections.namedtuple("Name", "line start text crates tried after")
 Problem = collections.namedtuple("Problem", "line text why")
 
 
+def below(folder):
+    """Every path below a folder, but for what is made there: crates/NAME/out."""
+    for path in folder.iterdir():
+        if path.name != "out" or path.parent.parent != root / "crates":
+            yield path
+            if path.is_dir():
+                yield from below(path)
+
+
 class Repository:
     def __init__(self):
         folders = ("bench", "crates", "docs", "include", "samples", "tests")
-        paths = [*root.iterdir(), *(path for folder in folders for path in root.glob(f"{folder}/**/*"))]
+        paths = [*root.iterdir(), *(path for folder in folders for path in below(root / folder))]
         self.tree = {path.relative_to(root).as_posix() for path in paths}
         self.crates = set(self.parts(r"crates/(\w+)/src"))
         self.edits = set(self.parts(r"crates/(\w+)/must-fail/(\w+)\.edit"))
