@@ -20,8 +20,7 @@ use segment::step::Step;
 // The number of the engine for a caller who does not choose.
 pub const FAST: u64 = 0;
 
-#[unsafe(no_mangle)]
-pub extern "C" fn asl_raw_check_by(engine: u64, table: &[u8], segment: &[u8]) -> u64
+pub fn asl_raw_check_by(engine: u64, table: &[u8], segment: &[u8]) -> u64
     ensures { result ≡ bits_of (check_of (table_in table.now) segment.now) 0 }
 {
     let by = checksum::engine_of(engine);
@@ -34,8 +33,7 @@ pub extern "C" fn asl_raw_check_by(engine: u64, table: &[u8], segment: &[u8]) ->
 }
 
 // The answer's eight numbers go to the front of `found`, which has to have 64 bytes.
-#[unsafe(no_mangle)]
-pub extern "C" fn asl_raw_look_up_by(
+pub fn asl_raw_look_up_by(
     engine: u64,
     table: &[u8],
     segment: &[u8],
@@ -55,14 +53,7 @@ pub extern "C" fn asl_raw_look_up_by(
 }
 
 // The thirteen fields of a record go to the front of `fields`, which has to have 104 bytes then.
-#[unsafe(no_mangle)]
-pub extern "C" fn asl_raw_step_by(
-    engine: u64,
-    table: &[u8],
-    segment: &[u8],
-    at: u64,
-    fields: &mut [u8],
-) -> u64
+pub fn asl_raw_step_by(engine: u64, table: &[u8], segment: &[u8], at: u64, fields: &mut [u8]) -> u64
     ensures { left result fields.new ≡
         step_left (stepped (table_in table.now) segment.now at) fields.old }
 {
@@ -79,8 +70,7 @@ pub extern "C" fn asl_raw_step_by(
     }
 }
 
-#[unsafe(no_mangle)]
-pub extern "C" fn asl_raw_tidy_length_by(engine: u64, table: &[u8], segment: &[u8]) -> u64
+pub fn asl_raw_tidy_length_by(engine: u64, table: &[u8], segment: &[u8]) -> u64
     ensures { result ≡ length_bits (tidy_length_of (table_in table.now) segment.now) }
 {
     let by = checksum::engine_of(engine);
@@ -89,8 +79,7 @@ pub extern "C" fn asl_raw_tidy_length_by(engine: u64, table: &[u8], segment: &[u
     c_answer::settle(tidy_length::tidy_length_by(by, &numbers[..count], segment))
 }
 
-#[unsafe(no_mangle)]
-pub extern "C" fn asl_raw_tidy_by(engine: u64, table: &[u8], segment: &[u8], out: &mut [u8]) -> u64
+pub fn asl_raw_tidy_by(engine: u64, table: &[u8], segment: &[u8], out: &mut [u8]) -> u64
     ensures { left result out.new ≡ sealed_as (tidy_of (table_in table.now) segment.now out.old) }
 {
     let by = checksum::engine_of(engine);
@@ -100,8 +89,7 @@ pub extern "C" fn asl_raw_tidy_by(engine: u64, table: &[u8], segment: &[u8], out
     c_answer::settle(answer)
 }
 
-#[unsafe(no_mangle)]
-pub extern "C" fn asl_raw_write_by(
+pub fn asl_raw_write_by(
     engine: u64,
     table: &[u8],
     shard: u16,

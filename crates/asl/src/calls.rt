@@ -15,22 +15,19 @@ use crate::by;
 // The version of this interface: major, minor and patch, from the fifth, the third and the first byte on.
 pub const VERSION: u64 = 0x0000_0003_0001_0000;
 
-#[unsafe(no_mangle)]
-pub extern "C" fn asl_raw_version() -> u64
+pub fn asl_raw_version() -> u64
     ensures { result ≡ 12884967424 }
 {
     VERSION
 }
 
-#[unsafe(no_mangle)]
-pub extern "C" fn asl_raw_check(table: &[u8], segment: &[u8]) -> u64
+pub fn asl_raw_check(table: &[u8], segment: &[u8]) -> u64
     ensures { result ≡ bits_of (check_of (table_in table.now) segment.now) 0 }
 {
     by::asl_raw_check_by(by::FAST, table, segment)
 }
 
-#[unsafe(no_mangle)]
-pub extern "C" fn asl_raw_look_up(
+pub fn asl_raw_look_up(
     table: &[u8],
     segment: &[u8],
     hash_id: u64,
@@ -44,30 +41,26 @@ pub extern "C" fn asl_raw_look_up(
     by::asl_raw_look_up_by(by::FAST, table, segment, hash_id, digest, found)
 }
 
-#[unsafe(no_mangle)]
-pub extern "C" fn asl_raw_step(table: &[u8], segment: &[u8], at: u64, fields: &mut [u8]) -> u64
+pub fn asl_raw_step(table: &[u8], segment: &[u8], at: u64, fields: &mut [u8]) -> u64
     ensures { left result fields.new ≡
         step_left (stepped (table_in table.now) segment.now at) fields.old }
 {
     by::asl_raw_step_by(by::FAST, table, segment, at, fields)
 }
 
-#[unsafe(no_mangle)]
-pub extern "C" fn asl_raw_tidy_length(table: &[u8], segment: &[u8]) -> u64
+pub fn asl_raw_tidy_length(table: &[u8], segment: &[u8]) -> u64
     ensures { result ≡ length_bits (tidy_length_of (table_in table.now) segment.now) }
 {
     by::asl_raw_tidy_length_by(by::FAST, table, segment)
 }
 
-#[unsafe(no_mangle)]
-pub extern "C" fn asl_raw_tidy(table: &[u8], segment: &[u8], out: &mut [u8]) -> u64
+pub fn asl_raw_tidy(table: &[u8], segment: &[u8], out: &mut [u8]) -> u64
     ensures { left result out.new ≡ sealed_as (tidy_of (table_in table.now) segment.now out.old) }
 {
     by::asl_raw_tidy_by(by::FAST, table, segment, out)
 }
 
-#[unsafe(no_mangle)]
-pub extern "C" fn asl_raw_write(
+pub fn asl_raw_write(
     table: &[u8],
     shard: u16,
     snapshot_min: u64,

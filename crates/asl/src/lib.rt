@@ -2,6 +2,7 @@
 // answer; and the entry points for C, in `calls`, `by` and `sum`. A service is asked by an engine of the checksum (`.._by`), or by the fast one,
 // which is for a caller who does not choose.
 #![tactic(auto)]
+
 ghost use Rattle.std.specs.Prelude.{◌≡◌};
 ghost use Rattle.answer.specs.Answers.{check_answer, found_answer, written_answer};
 ghost use Rattle.segment.specs.Keys.{key_from};

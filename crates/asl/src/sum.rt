@@ -3,30 +3,26 @@ ghost use Rattle.std.specs.Prelude.{◌≡◌};
 ghost use Rattle.crc64.specs.Crc.{crc};
 ghost use Rattle.checksum.specs.Parts.{crc_on};
 
-#[unsafe(no_mangle)]
-pub extern "C" fn asl_raw_checksum_by(engine: u64, bytes: &[u8]) -> u64
+pub fn asl_raw_checksum_by(engine: u64, bytes: &[u8]) -> u64
     ensures { result ≡ crc bytes.now }
 {
     checksum::checksum_by(checksum::engine_of(engine), bytes)
 }
 
-#[unsafe(no_mangle)]
-pub extern "C" fn asl_raw_checksum(bytes: &[u8]) -> u64
+pub fn asl_raw_checksum(bytes: &[u8]) -> u64
     ensures { result ≡ crc bytes.now }
 {
     checksum::checksum(bytes)
 }
 
 // `before` is the checksum of the parts before, 0 where there are none.
-#[unsafe(no_mangle)]
-pub extern "C" fn asl_raw_checksum_on_by(engine: u64, before: u64, bytes: &[u8]) -> u64
+pub fn asl_raw_checksum_on_by(engine: u64, before: u64, bytes: &[u8]) -> u64
     ensures { result ≡ crc_on before bytes.now }
 {
     checksum::checksum_on_by(checksum::engine_of(engine), before, bytes)
 }
 
-#[unsafe(no_mangle)]
-pub extern "C" fn asl_raw_checksum_on(before: u64, bytes: &[u8]) -> u64
+pub fn asl_raw_checksum_on(before: u64, bytes: &[u8]) -> u64
     ensures { result ≡ crc_on before bytes.now }
 {
     checksum::checksum_on(before, bytes)

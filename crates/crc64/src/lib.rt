@@ -39,8 +39,7 @@ fn eat(register: u64, b: u8) -> u64
 }
 
 // The register after the bytes of s, from the register that stood before them.
-#[unsafe(no_mangle)]
-pub extern "C" fn crc64_plain_on(register: u64, s: &[u8]) -> u64
+pub fn crc64_plain_on(register: u64, s: &[u8]) -> u64
     ensures { result ≡ run register s.now }
 {
     let mut c = register;
@@ -51,15 +50,13 @@ pub extern "C" fn crc64_plain_on(register: u64, s: &[u8]) -> u64
 }
 
 // The checksum that a register stands for once every byte has been read: the register, inverted.
-#[unsafe(no_mangle)]
-pub extern "C" fn crc64_finish(register: u64) -> u64
+pub fn crc64_finish(register: u64) -> u64
     ensures { result ≡ bit_xor register ones }
 {
     register ^ START
 }
 
-#[unsafe(no_mangle)]
-pub extern "C" fn crc64_plain(s: &[u8]) -> u64
+pub fn crc64_plain(s: &[u8]) -> u64
     ensures { result ≡ crc s.now }
 {
     crc64_finish(crc64_plain_on(START, s))

@@ -93,8 +93,7 @@ fn with_tables(register: u64, s: &[u8]) -> u64
 
 // The register after the bytes of s, from the register that stood before them. `with_tables` is lent `&s[0..]`, here and below, and not s: a slice
 // that is lent to a function of its own stands on the stack, and s would be put there before its length is looked at.
-#[unsafe(no_mangle)]
-pub extern "C" fn crc64_fast_on(register: u64, s: &[u8]) -> u64
+pub fn crc64_fast_on(register: u64, s: &[u8]) -> u64
     ensures { result ≡ run register s.now }
 {
     if s.len() < PAYS {
@@ -103,8 +102,7 @@ pub extern "C" fn crc64_fast_on(register: u64, s: &[u8]) -> u64
     with_tables(register, &s[0..])
 }
 
-#[unsafe(no_mangle)]
-pub extern "C" fn crc64_fast(s: &[u8]) -> u64
+pub fn crc64_fast(s: &[u8]) -> u64
     ensures { result ≡ crc s.now }
 {
     if s.len() < PAYS {

@@ -1,6 +1,7 @@
 // Look up: whether a segment has a record with a key, and what that record says. The whole check is made in every call, so that absent means
 // that no record of an accepted segment has the key.
 #![tactic(auto)]
+
 ghost use Rattle.std.specs.Prelude.{◌≡◌, true};
 ghost use Rattle.answer.specs.Answers.{found_answer};
 ghost use Rattle.segment.specs.Format.{header_of};

@@ -1,6 +1,7 @@
 // The part of a segment that holds the extents of the record with a key. The whole check is made in every call, so that no part of a
 // segment is handed back that breaks a rule.
 #![tactic(auto)]
+
 ghost use Rattle.std.specs.Prelude.{◌≡◌, ◌+◌, ◌≤◌, length, take, drop};
 ghost use Rattle.segment.specs.Keys.{key_from};
 ghost use Rattle.segment.specs.LookUp.{looked_up, extents_part};

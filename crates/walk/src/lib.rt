@@ -1,5 +1,6 @@
 // The walk: a segment's records, handed out one at a time. A walker is a thin struct over the steps of `crates/walk_step`.
 #![tactic(auto)]
+
 ghost use Rattle.std.specs.Prelude.{◌≡◌};
 ghost use Rattle.segment.specs.Walk.{step_answer, step_of};
 ghost use Rattle.walk.specs.Taken.{Taken};

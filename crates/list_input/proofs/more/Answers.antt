@@ -19,7 +19,7 @@ fill-requires c = checked-readable _ _ (check-told _ _ _ c.check_by.ensures ∙ 
 pub returns-in-Refused : goal.returns-in-Refused
 returns-in-Refused c = part-told _ _ _ _ _ _ _
     (part-refused _ _ _ (omega (arith, c.if-out-lt-LONGEST.false)) (omega (arith, c.if-input-gt-MOST.false)) _ (check-told _ _ _ c.check_by.ensures ∙ c.in-Refused.is))
-    (omega (arith, c.if-out-lt-LONGEST.false)) c.Put-refused.ensures
+    (omega (arith, c.if-out-lt-LONGEST.false)) c.put_refused.ensures
 
 pub returns-in-Accepted : goal.returns-in-Accepted
 returns-in-Accepted c = part-told _ _ _ _ _ _ _
