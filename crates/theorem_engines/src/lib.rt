@@ -1,6 +1,7 @@
 // The two engines give one result on every input, and whichever number asks for an engine, a call answers the same: callers of both, which
 // compare, and are proved to find no difference.
 #![tactic(auto)]
+
 ghost use Rattle.std.specs.Prelude.{◌≡◌, true};
 
 pub fn same_checksum(s: &[u8]) -> bool

@@ -1,6 +1,7 @@
 // Two segments of one meaning: case L, and the same records in the other order with their digests exchanged. Tidy makes the
 // same bytes of both, the one by the fast engine of the checksum and the other by the plain one, by the theorem of demand 3 and not by a run.
 #![tactic(auto)]
+
 ghost use Rattle.theorem_cases.specs.PCases.{case_l};
 ghost use Rattle.theorem_two_orders.specs.Orders.{turned_l, Holds, OneForm};
 
