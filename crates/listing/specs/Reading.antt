@@ -7,4 +7,4 @@ use Rattle.listing.specs.declared.Input.TheVariants.{Read, Failed}
 
 abbrev pub Within : ℕ → Input → Type 0
 Within room (Read n) = n ≤ room
-Within room Failed = Unit
+Within room (Failed e) = Unit {0}

@@ -1,78 +1,86 @@
 // Lists a segment: reads standard input and writes what `list_input` makes of it, as docs/SERVICES.md, "The listing", says. An
 // input that could not be read to its end is not listed: one line on standard error says why.
 #![tactic(auto)]
-ghost use Rattle.std.specs.Prelude.{◌≤◌, length};
+
+ghost use Rattle.std.specs.Prelude.{◌≡◌, ◌≤◌, ◌-◌, length, IfOk};
 ghost use Rattle.listing.specs.Reading.{Within};
 
-use libc::{STDIN_FILENO, STDOUT_FILENO};
 use list_place::Place;
+use std::io;
+use std::io::{Read, Write};
 
 #[derive(Drop)]
 enum Input {
     Read(usize),
-    Failed,
+    Failed(io::Error),
 }
 
-// One read behind what is already there; a negative answer is a failure.
-fn read_more(buf: &mut [u8], done: usize) -> isize
+// One read behind what is already there.
+fn read_more(source: &mut impl Read, buf: &mut [u8], done: usize) -> io::Result<usize>
     requires { done ≤ length buf.old }
+    ensures { IfOk result (λ more. more ≤ length buf.old - done) }
 {
-    libc::read(STDIN_FILENO, &mut buf[done..])
+    source.read(&mut buf[done..])
 }
 
 // Reads until the input ends or the buffer is full: a short read is not the end.
-fn read_input(buf: &mut [u8]) -> Input
+fn read_input(source: &mut impl Read, buf: &mut [u8]) -> Input
     ensures { Within (length buf.old) result }
 {
     let mut done = 0;
     while done < buf.len() {
-        let got = read_more(buf, done);
-        if got < 0 {
-            return Input::Failed;
+        match read_more(source, buf, done) {
+            Ok(0) => return Input::Read(done),
+            Ok(more) => done += more,
+            Err(e) => return Input::Failed(e),
         }
-        let more = io::count(got, &buf[done..]);
-        if more == 0 {
-            return Input::Read(done);
-        }
-        done += more;
     }
     Input::Read(done)
 }
 
-fn write(text: &[u8]) -> bool {
-    if io::write_all(STDOUT_FILENO, text) {
-        return true;
-    }
-    os::fail(b"standard output");
-    false
-}
-
 // What is written of an input, a buffer at a time.
-fn list(input: &[u8], out: &mut [u8])
+fn list(sink: &mut impl Write, input: &[u8], out: &mut [u8]) -> io::Result<()>
     requires { 2169 ≤ length out.old }
 {
     let mut place = Place::RecordCount;
-    loop {
-        if list_place::is_done(place) {
-            return;
-        }
+    while !list_place::is_done(place) {
         let stop = list_input::more(input, place, out);
-        let end = stop.end;
-        if !write(&out[..end]) {
-            return;
-        }
+        sink.write_all(&out[..stop.end])?;
         place = stop.next;
+    }
+    Ok(())
+}
+
+// The system's words for an error, without its number.
+fn words(said: &str) -> &str {
+    match said.split_once(" (os error ") {
+        Some((words, _)) => words,
+        None => said,
     }
 }
 
-fn main() {
+fn fail(rt: &HostRuntime, what: &str, e: io::Error) -> io::Result<()> {
+    let said = format!(in rt.alloc(); "{e}")?;
+    eprintln!(rt; "{what}: {}", words(said.as_str()))
+}
+
+// Room for many lines, since each call for a part makes the whole check.
+fn page() -> [u8; 1048576]
+    ensures { length result ≡ 1048576 }
+{
+    [0; 1048576]
+}
+
+fn main(rt: HostRuntime) -> io::Result<()> {
     let mut buf = [0u8; list_input::ENOUGH];
-    match read_input(&mut buf) {
+    match read_input(&mut rt.stdin(), &mut buf) {
         Input::Read(n) => {
-            // large, since each call for a part makes the whole check
-            let mut out = [0u8; 1048576];
-            list(&buf[..n], &mut out);
+            let mut out = page();
+            match list(&mut rt.stdout(), &buf[..n], &mut out) {
+                Ok(()) => Ok(()),
+                Err(e) => fail(&rt, "standard output", e),
+            }
         }
-        Input::Failed => os::fail(b"standard input"),
+        Input::Failed(e) => fail(&rt, "standard input", e),
     }
 }

@@ -1,10 +1,8 @@
 -- `crc64::crc64_plain_on` meets its contract: the whole run is the run from here over what is left.
-use mathlib.Core.Path.{◌≡◌, refl}
-use Prim.Native.Nat.{◌-◌}
+use mathlib.Core.Path.{refl}
 use native.Mathlib.Omega.{arith}
 use borrow.Author.Rules.{rules}
-use lib.ListN.{length}
-use Rattle.crc64.proofs.CrcLaws.{Reached, at-start, one_more, at-end}
+use Rattle.crc64.proofs.CrcLaws.{at-start, one_more, at-end}
 use Rattle.crc64.proofs.crc64_plain_on.Goals as goal
 
 pub loop-i-init : goal.loop-i-init

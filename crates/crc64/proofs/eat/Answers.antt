@@ -1,6 +1,6 @@
 -- `crc64::eat` meets its contract: after k turns the register has made k steps.
-use mathlib.Core.Path.{◌≡◌, ap, ◌∙◌}
-use Prim.Native.Nat.{ℕ, ◌≤◌, ◌-◌}
+use mathlib.Core.Path.{ap, ◌∙◌}
+use Prim.Native.Nat.{ℕ}
 use lib.Bits.{bit_xor}
 use native.Mathlib.Omega.{arith}
 use borrow.Author.Rules.{rules}

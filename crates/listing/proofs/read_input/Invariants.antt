@@ -1,3 +1,4 @@
+<<<<<<< HEAD
 -- `listing::read_input` meets its contract: done bytes are there, and each turn reads some more.
 use Prim.Native.Nat.{◌-◌, ◌≤◌}
 use mathlib.Core.Path.{◌≡◌, refl, ◌∙◌}
@@ -11,3 +12,16 @@ invariant-loop-done l = (l.done ≤ length l.buf) × (length l.buf ≡ length l.
 
 abbrev pub decreases-loop-done : goal.decreases-loop-done
 decreases-loop-done l = length l.buf - l.done
+=======
+-- done bytes are there, and each turn reads some more
+use Prim.Native.Nat.{◌-◌, ◌≤◌}
+use mathlib.Core.Path.{◌≡◌}
+use lib.ListN.{length}
+use Rattle.listing.proofs.read_input.Given as goal
+
+abbrev pub invariant-loop-done : goal.invariant-loop-done
+invariant-loop-done g l = (l.done ≤ length l.buf) × (length l.buf ≡ length l.initial.buf)
+
+abbrev pub decreases-loop-done : goal.decreases-loop-done
+decreases-loop-done g l = length l.buf - l.done
+>>>>>>> cac5da23e2bfcd47fc7cc7f5b702d97cead62a33

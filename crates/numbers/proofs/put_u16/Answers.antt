@@ -1,5 +1,4 @@
 -- `numbers::put_u16` meets its contract: two halves of a byte each.
-use borrow.Author.Rules.{rules}
 use native.Mathlib.Omega.{arith}
 use lib.ListN.{length-set}
 use Rattle.numbers.proofs.NumberLaws.{write-halves, put_byte}

@@ -1,5 +1,4 @@
 -- `numbers::put_u32` meets its contract: two halves of 2 bytes each.
-use borrow.Author.Rules.{rules}
 use native.Mathlib.Omega.{arith}
 use Rattle.numbers.proofs.NumberLaws.{write-halves}
 use Rattle.numbers.proofs.put_u32.Goals as goal

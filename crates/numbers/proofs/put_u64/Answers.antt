@@ -1,5 +1,4 @@
 -- `numbers::put_u64` meets its contract: two halves of 4 bytes each.
-use borrow.Author.Rules.{rules}
 use native.Mathlib.Omega.{arith}
 use Rattle.numbers.proofs.NumberLaws.{write-halves}
 use Rattle.numbers.proofs.put_u64.Goals as goal

@@ -1,5 +1,4 @@
 -- `numbers::put_u8` meets its contract: a byte stored is the number put.
-use borrow.Author.Rules.{rules}
 use native.Mathlib.Omega.{arith}
 use Rattle.numbers.proofs.NumberLaws.{put_byte}
 use Rattle.numbers.proofs.put_u8.Goals as goal

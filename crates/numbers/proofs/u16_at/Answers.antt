@@ -1,5 +1,4 @@
 -- `numbers::u16_at` meets its contract: two halves of a byte each.
-use borrow.Author.Rules.{rules}
 use native.Mathlib.Omega.{arith}
 use mathlib.Core.Path.{sym, ◌∙◌}
 use Rattle.numbers.proofs.NumberLaws.{read-halves, num_at-one}

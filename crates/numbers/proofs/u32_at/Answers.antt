@@ -1,5 +1,4 @@
 -- `numbers::u32_at` meets its contract: two halves of 2 bytes each.
-use borrow.Author.Rules.{rules}
 use native.Mathlib.Omega.{arith}
 use Rattle.numbers.proofs.NumberLaws.{read-halves}
 use Rattle.numbers.proofs.u32_at.Goals as goal

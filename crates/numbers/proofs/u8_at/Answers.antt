@@ -1,5 +1,4 @@
 -- `numbers::u8_at` meets its contract: a byte is the number in it.
-use borrow.Author.Rules.{rules}
 use mathlib.Core.Path.{sym}
 use native.Mathlib.Omega.{arith}
 use Rattle.numbers.proofs.NumberLaws.{num_at-one}
