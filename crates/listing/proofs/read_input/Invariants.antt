@@ -1,18 +1,3 @@
-<<<<<<< HEAD
--- `listing::read_input` meets its contract: done bytes are there, and each turn reads some more.
-use Prim.Native.Nat.{◌-◌, ◌≤◌}
-use mathlib.Core.Path.{◌≡◌, refl, ◌∙◌}
-use native.Mathlib.Omega.{arith}
-use lib.ListN.{length, drop}
-use Rattle.list_line.proofs.ListedRows.{part-short}
-use Rattle.listing.proofs.read_input.Given as goal
-
-abbrev pub invariant-loop-done : goal.invariant-loop-done
-invariant-loop-done l = (l.done ≤ length l.buf) × (length l.buf ≡ length l.initial.buf)
-
-abbrev pub decreases-loop-done : goal.decreases-loop-done
-decreases-loop-done l = length l.buf - l.done
-=======
 -- done bytes are there, and each turn reads some more
 use Prim.Native.Nat.{◌-◌, ◌≤◌}
 use mathlib.Core.Path.{◌≡◌}
@@ -24,4 +9,3 @@ invariant-loop-done g l = (l.done ≤ length l.buf) × (length l.buf ≡ length 
 
 abbrev pub decreases-loop-done : goal.decreases-loop-done
 decreases-loop-done g l = length l.buf - l.done
->>>>>>> cac5da23e2bfcd47fc7cc7f5b702d97cead62a33
