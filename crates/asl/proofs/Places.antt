@@ -1,7 +1,7 @@
 -- What the services answer fits the value of an answer: lengths are at most one GiB, places in a file are below that, and others those of entries.
 -- Assumes nothing.
-use Prim.Native.Nat.{ℕ, ◌≤◌, ◌<◌}
-use mathlib.Core.Path.{◌≡◌, refl, sym, ap, subst, ◌∙◌}
+use Prim.Native.Nat.{ℕ, ◌<◌}
+use mathlib.Core.Path.{◌≡◌, refl, sym, ap, subst}
 use mathlib.Core.Bool.{Bool, true, false, cond}
 use mathlib.Core.List.{List}
 use native.Mathlib.Omega.{arith}
@@ -21,18 +21,17 @@ use Rattle.answer.specs.Answers.{refusal, written_answer}
 use Rattle.answer.proofs.Order.{must-accepted, then-accepted}
 use Rattle.answer.proofs.Places.{Placed, accepts, refuses, placed-must, placed-then, placed_below}
 use Rattle.answer.proofs.Settled.{written-settled}
-use Rattle.table.specs.Table.{table_verdict}
 use Rattle.segment.specs.declared.record.Record.{Record}
 use Rattle.segment.specs.declared.step.Step.{Step}
 use Rattle.segment.specs.declared.step.Step.TheVariants.{Row, Done as NoRow, Refused as NoStep}
 use Rattle.segment.specs.Format.{v3, file_limit, header_of, record_count, record_no}
 use Rattle.segment.specs.Keys.{Key, allows_key}
 use Rattle.segment.specs.Check.{segment_verdict, checked}
-use Rattle.segment.specs.LookUp.{key_verdict, found_in, found_under, looked_up}
+use Rattle.segment.specs.LookUp.{key_verdict, found_under, looked_up}
 use Rattle.segment.specs.Walk.{stepped}
 use Rattle.segment.specs.Meaning.{meaning_of}
 use Rattle.segment.specs.Tidy.{Outcome, outcome, tidy_form, room_verdict, settled, tidied, tidy_of, tidy_sized, tidy_length_of}
-use Rattle.segment.specs.Write.{Request, request_rules, request_verdict, wrote, write_of}
+use Rattle.segment.specs.Write.{Request, request_verdict, wrote, write_of}
 use Rattle.segment.proofs.Shapes.{v3-shaped}
 use Rattle.segment.proofs.Found.{never-refused}
 use Rattle.check_book.proofs.Places.{table-placed, segment-placed}

@@ -1,6 +1,7 @@
 // Cases: each is run, and says in one line what came out. `rt ci` holds the lines to the file `stdout`, whose values come from
 // the publications of the checksum and from docs/SERVICES.md, "Cases", and not from a run of this program.
 #![tactic(auto)]
+
 mod checksums;
 mod counts;
 mod places;

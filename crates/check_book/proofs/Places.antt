@@ -6,8 +6,8 @@ use mathlib.Core.List.{List}
 use native.Mathlib.Omega.{arith}
 use lib.ListN.{length}
 use Rattle.answer.specs.declared.Verdict.TheVariants.{Accepted}
-use Rattle.answer.specs.Rules.{◌then◌, first_over}
-use Rattle.answer.proofs.Places.{Placed, placed-must, placed-then, placed-after, placed-cond, placed_first, placed-rows}
+use Rattle.answer.specs.Rules.{◌then◌}
+use Rattle.answer.proofs.Places.{Placed, placed-then, placed-after, placed_first, placed-rows}
 use Rattle.table.specs.Table.{table_verdict}
 use Rattle.segment.specs.declared.header.Header.{Header}
 use Rattle.segment.specs.declared.record.Record.{Record}

@@ -1,5 +1,6 @@
 // The records' rules: 7 to 10 of each, and the largest visibility on the way, in one pass.
 #![tactic(auto)]
+
 ghost use Rattle.std.specs.Prelude.{◌≡◌, ◌||◌, eqb, max};
 ghost use Rattle.segment.specs.Check.{marks_verdict, digest_verdict, record_rules};
 ghost use Rattle.check_book.specs.Readable.{Laid, Inside};

@@ -1,5 +1,6 @@
 // Check: the first rule that a segment breaks under a table, or that it is accepted (docs/SERVICES.md, "The order of refusals").
 #![tactic(auto)]
+
 ghost use Rattle.std.specs.Prelude.{◌≡◌, ◌≤◌, length};
 ghost use Rattle.answer.specs.Answers.{check_answer};
 ghost use Rattle.segment.specs.Format.{v3, file_limit};

@@ -1,24 +1,14 @@
 -- The order of items by their keys is total, and of items whose keys are distinct no two come no later than each other.
 -- Assumes nothing.
 use Prim.Native.Nat.{ℕ, ◌<◌}
-use mathlib.Core.Path.{◌≡◌, sym}
 use mathlib.Core.List.{List}
-use native.Mathlib.Omega.{arith}
-use borrow.Author.Tests.{ltb-true, ltb-false}
-use lib.Dec.{ltb}
-use Rattle.lists.proofs.Tests.{by-test}
-use Rattle.lists.proofs.Equal.{eq_list-iff}
 use Rattle.lists.proofs.Lex.{lex-anti, key-order}
 use Rattle.lists.proofs.Sorting.{Total}
 use Rattle.lists.proofs.Arranged.{Anti}
-use Rattle.answer.specs.declared.Verdict.TheVariants.{Accepted}
-use Rattle.answer.specs.Rules.{first_over}
-use Rattle.answer.proofs.Order.{first-accepted}
 use Rattle.segment.specs.Keys.{NoKeyTwice}
 use Rattle.key.specs.declared.Kind.{Kind}
 use Rattle.key.specs.Items.{item_key}
 use Rattle.key.specs.ItemOrder.{item_leq}
-use Rattle.key.proofs.Duplicates.{stands-earlier}
 
 pub item-anti : (kind : Kind) (bytes list : List ℕ) (n : ℕ) → NoKeyTwice (item_key kind bytes list) n → Anti (item_leq kind bytes list) (λ (i : ℕ). i < n)
 unfolding item_leq

@@ -4,7 +4,7 @@ use Prim.Native.Nat.{ℕ, ◌+◌, ◌-◌, ◌*◌, ◌≤◌, ◌<◌}
 use mathlib.Core.Path.{◌≡◌, subst}
 use mathlib.Core.List.{List}
 use native.Mathlib.Omega.{arith}
-use lib.ListN.{length, get_or, take, drop}
+use lib.ListN.{length, take, drop}
 use Rattle.numbers.specs.Numbers.{num_at}
 use Rattle.offset.specs.declared.FileOffset.{FileOffset}
 use Rattle.segment.specs.declared.shape.Shape.{Shape}

@@ -8,8 +8,6 @@ use mathlib.Core.List.{List}
 use native.Mathlib.Nat.{eq-or-lt_of_le, le_of_suc-le-suc}
 use native.Mathlib.Omega.{arith}
 use borrow.Author.Tests.{not-true}
-use Rattle.answer.specs.declared.Verdict.TheVariants.{Accepted}
-use Rattle.answer.specs.Rules.{first_over}
 use Rattle.lists.proofs.Tests.{by-test, and-iff}
 use Rattle.lists.specs.Lists.{lex_leq, sort_by, count_from, Ascending}
 use Rattle.segment.specs.Keys.{NoKeyTwice}
@@ -18,7 +16,6 @@ use Rattle.key.specs.Items.{item_key}
 use Rattle.key.specs.ItemOrder.{item_leq}
 use Rattle.key_hint.specs.Leading.{item_hint}
 use Rattle.key_hint.proofs.Leads.{lead-decides}
-use Rattle.key.proofs.Duplicates.{keys-book}
 use Rattle.lists.proofs.Lex.{lex-refl}
 use Rattle.key.proofs.ItemOrder.{item-order}
 use Rattle.lists.proofs.Sorting.{Total}

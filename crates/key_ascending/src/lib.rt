@@ -1,5 +1,6 @@
 // Whether the keys of many items climb, each before the next. Keys in tidy order do, and then none stands twice.
 #![tactic(auto)]
+
 ghost use Rattle.std.specs.Prelude.{◌≡◌};
 ghost use Rattle.key.specs.Items.{Items};
 ghost use Rattle.key.specs.ItemOrder.{item_leq};

@@ -2,7 +2,7 @@
 -- Assumes nothing.
 use Prim.Native.Nat.{ℕ, ◌+◌, ◌≤◌, ◌<◌}
 use mathlib.Core.Path.{◌≡◌, refl, sym, ap, ◌∙◌}
-use mathlib.Core.Bool.{Bool, true, false}
+use mathlib.Core.Bool.{true, false}
 use mathlib.Core.List.{List, [], ◌∷◌, ◌++◌}
 use native.Mathlib.Numerals.{add-one}
 use native.Mathlib.Omega.{arith}
@@ -18,7 +18,6 @@ use Rattle.key.specs.declared.head.Head.{Head}
 use Rattle.key.specs.declared.head.Compared.{Compared}
 use Rattle.key.specs.declared.head.Compared.TheVariants.{Less, Equal, Greater}
 use Rattle.key.specs.Items.{item_digest, item_head, item_key}
-use Rattle.key.specs.ItemOrder.{item_leq}
 use Rattle.key.specs.Heads.{head_numbers, head_key, lex, not_greater, is_equal}
 
 -- what is left from k on decides (`left`)

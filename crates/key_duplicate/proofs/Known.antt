@@ -4,12 +4,9 @@ use Prim.Native.Nat.{ℕ}
 use mathlib.Core.Path.{◌≡◌}
 use mathlib.Core.List.{List}
 use native.Mathlib.Omega.{arith}
-use Rattle.answer.proofs.Order.{first-none}
-use Rattle.segment.specs.Keys.{fresh_key}
 use Rattle.key.specs.declared.Kind.{Kind}
 use Rattle.key.specs.Items.{item_key}
 use Rattle.key.specs.ItemOrder.{item_leq}
-use Rattle.key.proofs.Duplicates.{keys-book}
 use Rattle.key_repeat.specs.Falls.{sorted_fall}
 use Rattle.key_repeat.proofs.Falling.{fall-within, below-differ}
 use Rattle.key_duplicate.specs.Known.{Known}

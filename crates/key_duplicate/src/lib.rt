@@ -4,6 +4,7 @@
 // A caller asks `key_ascending::keys_climb` first and `check_keys` only if the keys do not climb. These are two functions because
 // `check_keys` has large arrays on its stack, which the compiler reserves when it is entered; keys in tidy order do not wait for that.
 #![tactic(auto)]
+
 ghost use Rattle.std.specs.Prelude.{◌≡◌, ◌≤◌};
 ghost use Rattle.answer.specs.Rules.{first_over};
 ghost use Rattle.segment.specs.Format.{record_limit};

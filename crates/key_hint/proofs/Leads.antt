@@ -9,7 +9,6 @@ use native.Mathlib.Omega.{arith}
 use borrow.Author.Tests.{lt-ltb, le-ltb, ltb-true, ltb-false, eq-eqb, ne_eqb}
 use lib.Dec.{ltb}
 use lib.ListN.{get_or, drop}
-use lib.Seq.{get_or-drop}
 use Rattle.lists.proofs.Tests.{by-test}
 use Rattle.lists.specs.Lists.{lex_leq}
 use Rattle.key.specs.declared.Kind.{Kind}

@@ -1,5 +1,6 @@
 // Two sorted lists of item numbers, merged into one by the items' keys, with a hint of each.
 #![tactic(auto)]
+
 ghost use Rattle.std.specs.Prelude.{◌≡◌, ◌+◌, ◌≤◌, length, take, drop};
 ghost use Rattle.key.specs.ItemOrder.{item_leq};
 ghost use Rattle.key_merge.specs.Order.{AllHinted};

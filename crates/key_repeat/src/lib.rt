@@ -1,6 +1,7 @@
 // How many of many items are known to be new. In the sorted order equal keys stand side by side: the lowest number whose key does
 // not come after its neighbour's tells how many items at the beginning have keys that stand nowhere earlier.
 #![tactic(auto)]
+
 ghost use Rattle.std.specs.Prelude.{◌≡◌, ◌≤◌, ◌-◌, length};
 ghost use Rattle.segment.specs.Format.{record_limit};
 ghost use Rattle.key.specs.Items.{Items};

@@ -1,5 +1,6 @@
 // Item numbers: counted up, and sorted by the items' keys, with a hint of each.
 #![tactic(auto)]
+
 ghost use Rattle.std.specs.Prelude.{◌≡◌, ◌≤◌, length};
 ghost use Rattle.lists.specs.Lists.{sort_by, count_from};
 ghost use Rattle.segment.specs.Format.{record_limit};

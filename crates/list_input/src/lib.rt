@@ -1,6 +1,7 @@
 // What is written of an input, as docs/SERVICES.md, "The listing", says: the bytes that were read go in, and the text comes out, as
 // much at a time as there is room for. The whole check is made in every call, so that a caller has nothing to keep but the place.
 #![tactic(auto)]
+
 ghost use Rattle.std.specs.Prelude.{◌≤◌, length};
 ghost use Rattle.list_digits.specs.Digits.{ascii};
 ghost use Rattle.list_columns.specs.Listing.{last, refusal_line};

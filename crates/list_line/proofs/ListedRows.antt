@@ -1,18 +1,18 @@
 -- A record's line, from the record and from its row.
 -- Assumes nothing.
-use Prim.Native.Nat.{ℕ, zero, suc, ◌+◌, ◌-◌, ◌*◌, ◌≤◌, ◌<◌}
-use mathlib.Core.Path.{◌≡◌, refl, sym, ap, subst, ◌∙◌}
+use Prim.Native.Nat.{ℕ, zero, suc, ◌+◌, ◌-◌, ◌≤◌, ◌<◌}
+use mathlib.Core.Path.{◌≡◌, refl, sym, ap, ◌∙◌}
 use mathlib.Core.Bool.{Bool, true, false, cond}
-use mathlib.Core.List.{List, [], ◌∷◌, map, append_assoc}
+use mathlib.Core.List.{List, [], ◌∷◌, append_assoc}
 use native.Mathlib.Omega.{arith}
-use lib.ListN.{length, take, drop, drop_of_length-le}
+use lib.ListN.{length, take, drop}
 use Rattle.segment.specs.declared.header.Header.{Header}
 use Rattle.segment.specs.declared.record.Record.{Record}
 use Rattle.segment.specs.declared.extent.Extent.{Extent}
 use Rattle.segment.specs.declared.shape.Shape.{Shape}
-use Rattle.segment.specs.Format.{record_at, record_of, record_no, extents_at, extents_in, record_count}
+use Rattle.segment.specs.Format.{record_at, record_of, extents_at, record_count}
 use Rattle.segment.specs.Check.{is_gone, sum_lengths, digest_in}
-use Rattle.segment.specs.Meaning.{gone, live, Row, row_extents, row_of, row_no, rows_of}
+use Rattle.segment.specs.Meaning.{gone, live, row_extents, row_of, row_no}
 use Rattle.check_book.specs.Readable.{Readable}
 use Rattle.check_book.proofs.Rows.{record-known, is_row, own-extents, own-count}
 use Rattle.list_columns.specs.Listing.{state_word, record_line}

@@ -1,5 +1,6 @@
 // The listing of a segment, one piece at a time: the line at a place, or none.
 #![tactic(auto)]
+
 ghost use Rattle.std.specs.Prelude.{◌≡◌, ◌+◌, ◌≤◌, length, drop};
 ghost use Rattle.segment.specs.Meaning.{rows_of, meaning_of};
 ghost use Rattle.segment.specs.Listing.{extents_listed};

@@ -1,11 +1,10 @@
 -- The laws of a search for a key among the records, and of what is said of the record that has it.
 -- Assumes nothing.
-use Prim.Native.Nat.{ℕ, ◌+◌, ◌*◌, ◌≤◌, ◌<◌}
+use Prim.Native.Nat.{ℕ, ◌+◌, ◌≤◌, ◌<◌}
 use mathlib.Core.Path.{◌≡◌, sym, ap, ◌∙◌}
 use mathlib.Core.Bool.{Bool, true, false, not}
 use mathlib.Core.List.{List}
 use native.Mathlib.Omega.{arith}
-use lib.ListN.{length}
 use Rattle.answer.specs.declared.Refusal.{Refusal}
 use Rattle.answer.specs.declared.Rule.TheVariants.{Key as KeyWrong, Table as TableWrong}
 use Rattle.answer.specs.declared.Verdict.TheVariants.{Accepted, Refused as Stopped}
@@ -19,7 +18,7 @@ use Rattle.segment.specs.declared.header.Header.{Header}
 use Rattle.segment.specs.declared.record.Record.{Record}
 use Rattle.segment.specs.declared.shape.Shape.{Shape}
 use Rattle.segment.specs.Format.{v3, header_of, record_of, record_no, record_count, records_offset, record_at}
-use Rattle.table.specs.Table.{good_table, table_verdict, allows}
+use Rattle.table.specs.Table.{good_table, table_verdict}
 use Rattle.segment.specs.Keys.{Key, key_of, allows_key}
 use Rattle.lists.specs.Lists.{eq_list}
 use Rattle.segment.specs.Check.{digest_in, key_no, segment_verdict}

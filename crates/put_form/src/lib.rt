@@ -1,6 +1,7 @@
 // A segment written from items in the order of their numbers: header, bloom bytes, records, digests, extents and footer. Nothing is
 // written before it is known that the result keeps to the limit and fits the output.
 #![tactic(auto)]
+
 ghost use Rattle.std.specs.Prelude.{◌≡◌, ◌+◌, ◌≤◌, length};
 ghost use Rattle.numbers.specs.Numbers.{put};
 ghost use Rattle.segment.specs.Format.{header_size, records_offset, record_limit};

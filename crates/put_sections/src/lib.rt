@@ -1,6 +1,7 @@
 // The three sections that are made of records, each into a stretch of bytes of its own: the records, their digests with zeros
 // behind them, their extents. All three take the items in the order of the numbers that they are lent.
 #![tactic(auto)]
+
 ghost use Rattle.std.specs.Prelude.{◌≡◌, ◌+◌, ◌*◌, ◌≤◌, length, replicate};
 ghost use Rattle.numbers.specs.Numbers.{put};
 ghost use Rattle.segment.specs.Format.{extent_size, digests_offset, extents_offset};

@@ -1,7 +1,7 @@
 -- What readers and writers ask of a shape, whichever version it is: its numbers fit their fields, and a record has the bytes that its total's width
 -- asks for.
 -- Assumes nothing: these are definitions.
-use Rattle.std.specs.Prelude.{◌^◌, ◌<◌, ◌≡◌, cond}
+use Rattle.std.specs.Prelude.{◌<◌, ◌≡◌, cond}
 use Rattle.segment.specs.declared.shape.Shape.{Shape}
 use Rattle.segment.specs.Format.{record_bytes}
 

@@ -9,7 +9,7 @@ use mathlib.Core.Path.{◌≡◌, sym, ◌∙◌}
 use mathlib.Core.Bool.{false≢true}
 use mathlib.Core.HLevel.{Σ_set}
 use mathlib.Core.Logic.{by_cases}
-use mathlib.Core.List.{List, [], is_set}
+use mathlib.Core.List.{List, is_set}
 use mathlib.Mathlib.Logic.Function.Defs.Injective
 use native.Mathlib.Decide.{ℕ_discrete}
 use native.Mathlib.Nat.{ℕ_set}

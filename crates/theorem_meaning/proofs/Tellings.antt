@@ -19,7 +19,6 @@ use Rattle.segment.specs.declared.header.Heading.{Heading}
 use Rattle.segment.specs.declared.record.Record.{Record}
 use Rattle.segment.specs.declared.extent.Extent.{Extent}
 use Rattle.segment.specs.Format.{v3, in_file, header_of, record_count, record_no, extent_of, extents_at}
-use Rattle.table.specs.Table.{allows}
 use Rattle.segment.specs.Keys.{key_of, Key, allows_key}
 use Rattle.segment.specs.Check.{is_gone, key_no, check_of}
 use Rattle.segment.specs.Meets.{LayoutMeets, LiveMeets, RecordMeets, Meets}

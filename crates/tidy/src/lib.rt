@@ -1,5 +1,6 @@
 // Tidy: the tidy form of a segment, or the first rule that the segment breaks (docs/SERVICES.md, "Tidy and its length").
 #![tactic(auto)]
+
 ghost use Rattle.std.specs.Prelude.{◌≡◌, true, ◌≤◌, length};
 ghost use Rattle.segment.specs.Format.{v3, least_file};
 ghost use Rattle.table.specs.Table.{good_table};

@@ -1,6 +1,7 @@
 // The length of a segment's tidy form, with nothing written: what a caller asks before it makes room. Everything before the digests
 // is as long as it was; the digests are packed, and extents that records share stand once for each of them.
 #![tactic(auto)]
+
 ghost use Rattle.std.specs.Prelude.{◌≡◌, true, length};
 ghost use Rattle.answer.specs.Answers.{written_answer};
 ghost use Rattle.table.specs.Table.{good_table};

@@ -1,8 +1,6 @@
 -- Where write's check of what it is lent refuses: at 0, or at the place of an entry that is there.
 -- Assumes nothing.
 use Prim.Native.Nat.{ℕ, ◌%◌, ◌≤◌, ◌<◌}
-use mathlib.Core.Path.{◌≡◌}
-use mathlib.Core.Bool.{true}
 use mathlib.Core.List.{List}
 use native.Mathlib.Omega.{arith}
 use borrow.Author.Tests.{leb-true}
@@ -10,7 +8,7 @@ use lib.Dec.{leb, eqb}
 use Rattle.answer.specs.declared.Rule.TheVariants.{Large, LayoutBloom}
 use Rattle.answer.specs.Answers.{refusal}
 use Rattle.answer.proofs.Order.{must-accepted}
-use Rattle.answer.proofs.Places.{Placed, placed-must, placed-then, placed-after, placed-cond, placed_first, placed-rows}
+use Rattle.answer.proofs.Places.{Placed, placed-must, placed-then, placed-after, placed_first, placed-rows}
 use Rattle.segment.specs.declared.entry.Entry.{Entry}
 use Rattle.segment.specs.declared.shape.Shape.{Shape}
 use Rattle.segment.specs.Format.{record_limit}

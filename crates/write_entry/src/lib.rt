@@ -1,6 +1,7 @@
 // The rules of one entry that write is lent, each a test of the entry's numbers: its marks and its places here, how far it
 // reaches into the lent lists in `reach`, and its extents in `total`. Which refusal a broken rule gives is the caller's.
 #![tactic(auto)]
+
 ghost use Rattle.std.specs.Prelude.{◌≡◌};
 ghost use Rattle.write_entry.specs.Kept.{marks_kept, places_kept};
 

@@ -1,6 +1,5 @@
 -- `c_answer::bits` meets its contract: a sum.
 use native.Mathlib.Omega.{arith}
-use borrow.Author.Rules.{rules}
 use Rattle.c_answer.specs.Boundary.{answer_bits}
 use Rattle.c_answer.proofs.bits.Goals as goal
 

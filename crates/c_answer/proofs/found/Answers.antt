@@ -1,5 +1,4 @@
 -- `c_answer::found` meets its contract: with a source or without.
-use borrow.Author.Rules.{rules}
 use Rattle.c_answer.proofs.Replies.{of_none, of-domain}
 use Rattle.c_answer.proofs.found.Goals as goal
 

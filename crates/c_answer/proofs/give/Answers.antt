@@ -1,6 +1,5 @@
 -- `c_answer::give` meets its contract: no room, or put.
 use native.Mathlib.Omega.{arith}
-use borrow.Author.Rules.{rules}
 use lib.Dec.{lit<}
 use Rattle.c_answer.proofs.Replies.{given-room, given-put}
 use Rattle.c_answer.proofs.give.Goals as goal

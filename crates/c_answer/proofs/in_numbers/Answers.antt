@@ -1,5 +1,4 @@
 -- `c_answer::in_numbers` meets its contract: each answer's own numbers.
-use borrow.Author.Rules.{rules}
 use Rattle.c_answer.proofs.Replies.{reply-absent, reply-gone, reply-present, reply-refused}
 use Rattle.c_answer.proofs.in_numbers.Goals as goal
 

@@ -1,6 +1,5 @@
 -- `c_answer::leave` meets its contract: refused, or given.
 use native.Mathlib.Omega.{arith}
-use borrow.Author.Rules.{rules}
 use Rattle.c_answer.proofs.Replies.{left-refused, left-given}
 use Rattle.c_answer.proofs.leave.Goals as goal
 

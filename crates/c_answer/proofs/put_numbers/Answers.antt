@@ -1,8 +1,7 @@
 -- `c_answer::put_numbers` meets its contract: i numbers are put.
 use Prim.Native.Nat.{◌-◌}
 use native.Mathlib.Omega.{arith}
-use lib.ListN.{length}
-use Rattle.c_answer.proofs.Replies.{Putting, putting-start, putting-more, putting-done}
+use Rattle.c_answer.proofs.Replies.{putting-start, putting-more, putting-done}
 use Rattle.c_answer.proofs.put_numbers.Goals as goal
 
 pub loop-i-init : goal.loop-i-init

@@ -1,6 +1,5 @@
 -- `c_answer::record_numbers` meets its contract: field by field.
 use mathlib.Core.List.{[], ◌∷◌}
-use borrow.Author.Rules.{rules}
 use Rattle.c_answer.proofs.record_numbers.Goals as goal
 
 pub returns : goal.returns

@@ -1,7 +1,5 @@
 -- `c_answer::refuse` meets its contract: the refusal's number and place.
-use mathlib.Core.Path.{sym, ◌∙◌}
 use native.Mathlib.Omega.{arith}
-use borrow.Author.Rules.{rules}
 use Rattle.c_answer.proofs.Replies.{rule-small, refused-bits}
 use Rattle.c_answer.proofs.refuse.Goals as goal
 

@@ -1,5 +1,4 @@
 -- `c_answer::settle` meets its contract: a length, or a refusal.
-use borrow.Author.Rules.{rules}
 use lib.Dec.{lit<}
 use Rattle.c_answer.proofs.Replies.{settled-done, settled-refused, done-small, refused-small}
 use Rattle.c_answer.proofs.settle.Goals as goal

@@ -1,10 +1,7 @@
 -- `c_table::numbers_in` meets its contract: after i turns i numbers stand in front of zeros.
 use Prim.Native.Nat.{◌-◌}
-use borrow.Author.Rules.{rules}
-use native.Mathlib.Omega.{arith}
-use Rattle.table.proofs.Pairs.{Filling, filling-none, filling-done}
+use Rattle.table.proofs.Pairs.{Filling}
 use Rattle.c_table.specs.Lent.{taken}
-use Rattle.c_table.proofs.Taking.{word, taking-more}
 use Rattle.c_table.proofs.numbers_in.Given as goal
 
 abbrev pub invariant-loop-i : goal.invariant-loop-i

@@ -1,5 +1,4 @@
 -- `check_extents::check_extents` meets its contract: a row for each return.
-use borrow.Author.Rules.{rules}
 use native.Mathlib.Omega.{arith}
 use Rattle.check_extents.proofs.ExtentRows.{extents-rows}
 use Rattle.check_extents.proofs.check_extents.Goals as goal

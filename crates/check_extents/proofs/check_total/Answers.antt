@@ -1,6 +1,5 @@
 -- `check_extents::check_total` meets its contract: a row for each return.
 use mathlib.Core.Path.{sym, ◌∙◌}
-use borrow.Author.Rules.{rules}
 use native.Mathlib.Omega.{arith}
 use Rattle.check_book.proofs.TablesRecord.{extents-book}
 use Rattle.check_book.proofs.Readable.{extents-inside}

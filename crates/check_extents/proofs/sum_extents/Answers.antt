@@ -1,9 +1,8 @@
 -- `check_extents::sum_extents` meets its contract: what is left of the extents decides.
 use Prim.Native.Nat.{◌-◌}
 use mathlib.Core.Path.{sym, ◌∙◌}
-use borrow.Author.Rules.{rules}
 use native.Mathlib.Omega.{arith}
-use Rattle.check_extents.proofs.ExtentRows.{Summing, sum-start, sum_past, sum_more, sum_done}
+use Rattle.check_extents.proofs.ExtentRows.{sum-start, sum_past, sum_more, sum_done}
 use Rattle.check_extents.proofs.sum_extents.Goals as goal
 
 pub loop-i-init : goal.loop-i-init

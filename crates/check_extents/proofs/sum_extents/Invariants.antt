@@ -1,9 +1,6 @@
 -- `check_extents::sum_extents` meets its contract: what is left of the extents decides.
 use Prim.Native.Nat.{◌-◌}
-use mathlib.Core.Path.{sym, ◌∙◌}
-use borrow.Author.Rules.{rules}
-use native.Mathlib.Omega.{arith}
-use Rattle.check_extents.proofs.ExtentRows.{Summing, sum-start, sum_past, sum_more, sum_done}
+use Rattle.check_extents.proofs.ExtentRows.{Summing}
 use Rattle.check_extents.proofs.sum_extents.Given as goal
 
 abbrev pub invariant-loop-i : goal.invariant-loop-i

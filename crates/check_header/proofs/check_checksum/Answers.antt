@@ -1,6 +1,5 @@
 -- `check_header::check_checksum` meets its contract: the checksum of every byte before the footer.
 use mathlib.Core.Path.{sym}
-use borrow.Author.Rules.{rules}
 use native.Mathlib.Omega.{arith}
 use lib.Seq.{length-take-le}
 use Rattle.check_header.proofs.HeaderRows.{checksum-differs, checksum-right}

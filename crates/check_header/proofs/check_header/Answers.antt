@@ -1,6 +1,5 @@
 -- `check_header::check_header` meets its contract: the first table that refuses.
 use mathlib.Core.Path.{sym, ◌∙◌}
-use borrow.Author.Rules.{rules}
 use Rattle.check_header.proofs.HeaderOrder.{head-stop, head-pass}
 use Rattle.check_header.proofs.check_header.Goals as goal
 

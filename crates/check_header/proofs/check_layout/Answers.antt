@@ -1,5 +1,4 @@
 -- `check_header::check_layout` meets its contract: a row for each return.
-use borrow.Author.Rules.{rules}
 use Rattle.segment.proofs.Shapes.{records-fit}
 use Rattle.check_header.proofs.HeaderRows.{layout-rows}
 use Rattle.check_header.proofs.check_layout.Goals as goal

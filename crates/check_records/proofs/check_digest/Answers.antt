@@ -1,5 +1,4 @@
 -- `check_records::check_digest` meets its contract: a row for each return.
-use borrow.Author.Rules.{rules}
 use native.Mathlib.Omega.{arith}
 use Rattle.check_records.proofs.RecordRows.{digest-rows}
 use Rattle.check_records.proofs.check_digest.Goals as goal

@@ -1,6 +1,5 @@
 -- `check_records::check_identity` meets its contract: the first table that refuses.
 use mathlib.Core.Path.{sym, ◌∙◌}
-use borrow.Author.Rules.{rules}
 use Rattle.check_records.proofs.RecordsPass.{marks-stop, marks-pass}
 use Rattle.check_records.proofs.check_identity.Goals as goal
 

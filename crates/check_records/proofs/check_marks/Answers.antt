@@ -1,5 +1,4 @@
 -- `check_records::check_marks` meets its contract: a row for each return.
-use borrow.Author.Rules.{rules}
 use Rattle.check_records.proofs.RecordRows.{marks-rows}
 use Rattle.check_records.proofs.check_marks.Goals as goal
 

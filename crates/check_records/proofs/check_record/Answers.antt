@@ -1,6 +1,5 @@
 -- `check_records::check_record` meets its contract: the first half that refuses.
 use mathlib.Core.Path.{sym, ◌∙◌}
-use borrow.Author.Rules.{rules}
 use Rattle.check_records.proofs.RecordsPass.{identity-stop, identity-pass}
 use Rattle.check_records.proofs.check_record.Goals as goal
 

@@ -1,10 +1,6 @@
 -- `check_records::check_records` meets its contract: nothing is refused below k, and the largest visibility is that of the records below it.
-use Prim.Native.Nat.{◌≤◌, ◌-◌, max}
-use mathlib.Core.Path.{sym, ap, ◌∙◌}
-use borrow.Author.Rules.{rules}
-use native.Mathlib.Omega.{arith}
-use Rattle.check_book.proofs.Readable.{laid-inside, record-inside}
-use Rattle.check_records.proofs.RecordsPass.{Passing, pass-start, pass-refused, pass-more, pass-done}
+use Prim.Native.Nat.{◌≤◌, ◌-◌}
+use Rattle.check_records.proofs.RecordsPass.{Passing}
 use Rattle.check_records.proofs.check_records.Given as goal
 
 abbrev pub invariant-loop-k : goal.invariant-loop-k

@@ -1,7 +1,5 @@
 -- `check_segment::check_body` meets its contract: the checksum, and then the contents.
 use mathlib.Core.Path.{sym, ◌∙◌}
-use borrow.Author.Rules.{rules}
-use native.Mathlib.Omega.{arith}
 use Rattle.check_segment.proofs.SegmentOrder.{checksum-stop, checksum-pass}
 use Rattle.check_segment.proofs.check_body.Goals as goal
 

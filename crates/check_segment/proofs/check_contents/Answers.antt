@@ -1,6 +1,5 @@
 -- `check_segment::check_contents` meets its contract: the records, then the largest visibility, then the keys.
 use mathlib.Core.Path.{sym, ◌∙◌}
-use borrow.Author.Rules.{rules}
 use native.Mathlib.Omega.{arith}
 use Rattle.key.proofs.Duplicates.{keys-book}
 use Rattle.key_ascending.proofs.Climbing.{none-twice}

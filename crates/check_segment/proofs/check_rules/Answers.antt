@@ -1,6 +1,5 @@
 -- `check_segment::check_rules` meets its contract: the header, and then the rest.
 use mathlib.Core.Path.{sym, ◌∙◌}
-use borrow.Author.Rules.{rules}
 use native.Mathlib.Omega.{arith}
 use Rattle.check_header.proofs.HeaderOrder.{laid_of}
 use Rattle.check_segment.proofs.SegmentOrder.{header-stop, header-pass}

@@ -1,5 +1,4 @@
 -- `checksum::checksum_on_by` meets its contract: the register before, run on, and inverted.
-use borrow.Author.Rules.{rules}
 use Rattle.checksum.specs.Parts.{crc_on}
 use Rattle.checksum.proofs.checksum_on_by.Goals as goal
 

@@ -7,7 +7,7 @@ use lib.Bits.{bit_xor, xor_zero_r}
 use lib.ListN.{length, drop, length-drop}
 use lib.Seq.{take_all}
 use Rattle.crc64.specs.Crc.{run}
-use Rattle.crc64.proofs.CrcLaws.{Reached, at-start}
+use Rattle.crc64.proofs.CrcLaws.{at-start}
 use Rattle.crc64_fast.proofs.Slices.{more}
 use Rattle.crc64_fast.proofs.by_tables.Goals as goal
 

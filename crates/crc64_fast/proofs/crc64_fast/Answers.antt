@@ -1,7 +1,6 @@
 -- `crc64_fast::crc64_fast` meets its contract: a run from all ones, inverted.
 use mathlib.Core.Path.{ap, ◌∙◌}
 use Prim.Native.Nat.{ℕ}
-use borrow.Author.Rules.{rules}
 use lib.Bits.{bit_xor}
 use Rattle.crc64.specs.Crc.{ones, crc}
 use Rattle.crc64_fast.proofs.Slices.{from_first}

@@ -1,11 +1,8 @@
 -- `crc64_fast::word` meets its contract: after k turns k bytes are packed.
-use mathlib.Core.Path.{◌≡◌, refl, ap, ◌∙◌}
+use mathlib.Core.Path.{◌≡◌}
 use Prim.Native.Nat.{◌+◌, ◌-◌, ◌≤◌}
-use native.Mathlib.Omega.{arith}
-use borrow.Author.Rules.{rules}
 use lib.ListN.{get_or}
 use Rattle.crc64_fast.specs.Word.{packed}
-use Rattle.crc64_fast.proofs.Slices.{pack}
 use Rattle.crc64_fast.proofs.word.Given as goal
 
 abbrev pub invariant-loop-k : goal.invariant-loop-k

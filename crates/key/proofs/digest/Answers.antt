@@ -1,6 +1,5 @@
 -- `key::digest` meets its contract: the part that the span names.
 use native.Mathlib.Omega.{arith}
-use borrow.Author.Rules.{rules}
 use Rattle.key.proofs.KeyColumns.{inside, held}
 use Rattle.key.proofs.digest.Goals as goal
 

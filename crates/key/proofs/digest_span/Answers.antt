@@ -1,6 +1,5 @@
 -- `key::digest_span` meets its contract: each kind's own column.
 use native.Mathlib.Omega.{arith}
-use borrow.Author.Rules.{rules}
 use Rattle.key.proofs.KeyColumns.{record-stands, record-fields, entry-stands, record-digest, entry-digest}
 use Rattle.key.proofs.digest_span.Goals as goal
 

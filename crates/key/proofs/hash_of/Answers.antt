@@ -1,6 +1,5 @@
 -- `key::hash_of` meets its contract: each kind's own column.
 use native.Mathlib.Omega.{arith}
-use borrow.Author.Rules.{rules}
 use Rattle.key.proofs.KeyColumns.{record-stands, record-fields, entry-stands, record-hash, entry-hash}
 use Rattle.key.proofs.hash_of.Goals as goal
 

@@ -1,5 +1,4 @@
 -- `key::head_of` meets its contract: each number from its own column.
-use borrow.Author.Rules.{rules}
 use Rattle.key.specs.Items.{item_head}
 use Rattle.key.proofs.head_of.Goals as goal
 

@@ -1,6 +1,5 @@
 -- `key::place_of` meets its contract: each kind's own place.
 use native.Mathlib.Omega.{arith}
-use borrow.Author.Rules.{rules}
 use Rattle.key.proofs.KeyColumns.{record-place, record-begins, entry-place}
 use Rattle.key.proofs.place_of.Goals as goal
 

@@ -1,5 +1,4 @@
 -- `key::record_span` meets its contract: the record's two fields.
-use borrow.Author.Rules.{rules}
 use Rattle.segment.specs.Format.{record_of}
 use Rattle.key.specs.Items.{record_span}
 use Rattle.key.proofs.record_span.Goals as goal

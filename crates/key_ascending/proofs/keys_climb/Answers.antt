@@ -1,9 +1,8 @@
 -- `key_ascending::keys_climb` meets its contract: i of the items climb, and the hint of the last of them is at hand.
 use Prim.Native.Nat.{◌-◌}
 use mathlib.Core.Path.{sym, ◌∙◌}
-use mathlib.Core.Logic.{⊎_elim}
 use native.Mathlib.Omega.{arith}
-use Rattle.key_ascending.proofs.Climbing.{Climbing, none-climb, climbing-start, climbs-by-key, climbs-by-hint, falls, climbed}
+use Rattle.key_ascending.proofs.Climbing.{none-climb, climbing-start, climbs-by-key, climbs-by-hint, falls, climbed}
 use Rattle.key_ascending.proofs.keys_climb.Goals as goal
 use Rattle.key_ascending.proofs.keys_climb.Goals.{then-hint-before+else-comes_first, else-hint-before}
 
@@ -39,8 +38,8 @@ loop-i-preserved c =
     let loop = c.loop-i in
     let told = c.hint-hint.ensures in
     elim c.if-hint-before.branch [
-      then-hint-before+else-comes_first w ↦ climbs-by-key _ _ _ loop.invariant told (sym w.comes_first.ensures ∙ w.if-comes_first.false)
-    | else-hint-before w ↦ climbs-by-hint _ _ _ loop.invariant told w.if-hint-before.false
+      | then-hint-before+else-comes_first w ↦ climbs-by-key _ _ _ loop.invariant told (sym w.comes_first.ensures ∙ w.if-comes_first.false)
+      | else-hint-before w ↦ climbs-by-hint _ _ _ loop.invariant told w.if-hint-before.false
     ]
 
 pub returns : goal.returns

@@ -1,9 +1,6 @@
 -- `key_ascending::keys_climb` meets its contract: i of the items climb, and the hint of the last of them is at hand.
 use Prim.Native.Nat.{◌-◌}
-use mathlib.Core.Path.{sym, ◌∙◌}
-use mathlib.Core.Logic.{⊎_elim}
-use native.Mathlib.Omega.{arith}
-use Rattle.key_ascending.proofs.Climbing.{Climbing, none-climb, climbing-start, climbs-by-key, climbs-by-hint, falls, climbed}
+use Rattle.key_ascending.proofs.Climbing.{Climbing}
 use Rattle.key_ascending.proofs.keys_climb.Given as goal
 
 abbrev pub invariant-loop-i : goal.invariant-loop-i

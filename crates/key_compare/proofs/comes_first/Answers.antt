@@ -1,5 +1,4 @@
 -- `key_compare::comes_first` meets its contract: the three-way answer, told two ways.
-use borrow.Author.Rules.{rules}
 use Rattle.key.specs.ItemOrder.{item_leq}
 use Rattle.key_compare.proofs.Compare.{less-leq, equal-leq, greater-leq}
 use Rattle.key_compare.proofs.comes_first.Goals as goal

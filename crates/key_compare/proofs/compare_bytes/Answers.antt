@@ -1,9 +1,6 @@
 -- `key_compare::compare_bytes` meets its contract: the bytes passed are equal, and what is left decides.
-use Prim.Native.Nat.{◌≤◌, ◌-◌}
-use mathlib.Core.Path.{◌≡◌}
-use lib.ListN.{length, drop}
+use Prim.Native.Nat.{◌-◌}
 use borrow.Author.Rules.{rules}
-use Rattle.key.specs.Heads.{lex}
 use Rattle.key_compare.proofs.Compare.{lex-steps}
 use Rattle.key_compare.proofs.compare_bytes.Goals as goal
 

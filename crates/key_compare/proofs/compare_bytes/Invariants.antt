@@ -2,9 +2,7 @@
 use Prim.Native.Nat.{◌≤◌, ◌-◌}
 use mathlib.Core.Path.{◌≡◌}
 use lib.ListN.{length, drop}
-use borrow.Author.Rules.{rules}
 use Rattle.key.specs.Heads.{lex}
-use Rattle.key_compare.proofs.Compare.{lex-steps}
 use Rattle.key_compare.proofs.compare_bytes.Given as goal
 
 abbrev pub invariant-loop-k : goal.invariant-loop-k

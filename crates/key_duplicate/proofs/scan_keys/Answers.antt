@@ -1,16 +1,12 @@
 -- `key_duplicate::scan_keys` meets its contract: every item known or passed is new, and the item at hand equals none of those passed in the inner loop.
-use Prim.Native.Nat.{◌≤◌, ◌-◌}
-use mathlib.Core.Path.{◌≡◌}
+use Prim.Native.Nat.{◌-◌}
 use mathlib.Core.Bool.{false}
-use mathlib.Core.Logic.{⊎_elim}
 use native.Mathlib.Omega.{arith}
-use Rattle.answer.specs.declared.Verdict.TheVariants.{Accepted}
-use Rattle.answer.specs.Rules.{first_over, some_below}
 use Rattle.answer.proofs.Order.{none_yet}
 use Rattle.key.proofs.Duplicates.{keys-book}
 use Rattle.key.proofs.KeyColumns.{place-fits}
-use Rattle.segment.specs.Keys.{same_key, fresh_key}
-use Rattle.key.specs.Items.{item_key, item_place}
+use Rattle.segment.specs.Keys.{same_key}
+use Rattle.key.specs.Items.{item_key}
 use Rattle.key_duplicate.proofs.Scanning.{another, passed, found-twice, found_nowhere, stopped-before, stopped-at-end}
 use Rattle.key_duplicate.proofs.scan_keys.Goals as goal
 use Rattle.key_duplicate.proofs.scan_keys.Goals.{then-n-i, else-n-i+then-loop-j-test+then-same_key}
@@ -44,15 +40,15 @@ place_of-requires c =
 pub returns-then-found-n : goal.returns-then-found-n
 returns-then-found-n c =
     elim c.if-n-i.branch [
-      then-n-i w ↦ stopped-before _ _ w.found-is c.if-found-n.true
-    | else-n-i+then-loop-j-test+then-same_key w ↦
-      found-twice _ _ _ c.pairs.invariant.1 _ w.loop-j.j _ w.found-is c.if-found-n.true w.loop-j-test.true w.same_key.ensures w.if-same_key.true c.place_of.ensures
+      | then-n-i w ↦ stopped-before _ _ w.found-is c.if-found-n.true
+      | else-n-i+then-loop-j-test+then-same_key w ↦
+          found-twice _ _ _ c.pairs.invariant.1 _ w.loop-j.j _ w.found-is c.if-found-n.true w.loop-j-test.true w.same_key.ensures w.if-same_key.true c.place_of.ensures
     ]
 
 pub returns : goal.returns
 returns c =
     let p = c.pairs in
     elim c.if-n-i.branch [
-      then-n-i w ↦ found_nowhere _ _ _ p.invariant.1 _ p.invariant.0 w.if-n-i.true
-    | else-n-i+then-loop-j-test+then-same_key w ↦ stopped-at-end _ _ _ w.found-is w.if-n-i.false c.if-found-n.false
+      | then-n-i w ↦ found_nowhere _ _ _ p.invariant.1 _ p.invariant.0 w.if-n-i.true
+      | else-n-i+then-loop-j-test+then-same_key w ↦ stopped-at-end _ _ _ w.found-is w.if-n-i.false c.if-found-n.false
     ]

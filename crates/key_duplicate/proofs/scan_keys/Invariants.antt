@@ -2,16 +2,10 @@
 use Prim.Native.Nat.{◌≤◌, ◌-◌}
 use mathlib.Core.Path.{◌≡◌}
 use mathlib.Core.Bool.{false}
-use mathlib.Core.Logic.{⊎_elim}
-use native.Mathlib.Omega.{arith}
 use Rattle.answer.specs.declared.Verdict.TheVariants.{Accepted}
 use Rattle.answer.specs.Rules.{first_over, some_below}
-use Rattle.answer.proofs.Order.{none_yet}
-use Rattle.key.proofs.Duplicates.{keys-book}
-use Rattle.key.proofs.KeyColumns.{place-fits}
 use Rattle.segment.specs.Keys.{same_key, fresh_key}
 use Rattle.key.specs.Items.{item_key, item_place}
-use Rattle.key_duplicate.proofs.Scanning.{another, passed, found-twice, found_nowhere, stopped-before, stopped-at-end}
 use Rattle.key_duplicate.proofs.scan_keys.Given as goal
 
 abbrev pub invariant-loop-j : goal.invariant-loop-j

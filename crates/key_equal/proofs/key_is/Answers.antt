@@ -1,5 +1,4 @@
 -- `key_equal::key_is` meets its contract: the item's columns, compared with the key, and the answer told two ways.
-use borrow.Author.Rules.{rules}
 use Rattle.key_compare.proofs.Compare.{item-told, less-same, equal-same, greater-same}
 use Rattle.key_equal.proofs.key_is.Goals as goal
 

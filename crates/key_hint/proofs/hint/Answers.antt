@@ -1,5 +1,4 @@
 -- `key_hint::hint` meets its contract: the hint of the item's own key.
-use borrow.Author.Rules.{rules}
 use Rattle.key_hint.proofs.Leads.{item-hint}
 use Rattle.key_hint.proofs.hint.Goals as goal
 

@@ -1,5 +1,4 @@
 -- `key_hint::hint_of` meets its contract: four digits, and none after 255.
-use borrow.Author.Rules.{rules}
 use Rattle.key_hint.proofs.Leads.{first_stops, second-stops, third-stops, fourth-ends}
 use Rattle.key_hint.proofs.hint_of.Goals as goal
 

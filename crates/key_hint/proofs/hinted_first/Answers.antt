@@ -1,5 +1,4 @@
 -- `key_hint::hinted_first` meets its contract: hints that differ decide, and where they do not, the keys do.
-use borrow.Author.Rules.{rules}
 use Rattle.key_hint.proofs.Leads.{lower-hint, higher-hint}
 use Rattle.key_hint.proofs.hinted_first.Goals as goal
 

@@ -1,8 +1,7 @@
 -- `key_hint::put_hints` meets its contract: k hints have been put.
 use Prim.Native.Nat.{◌-◌}
 use native.Mathlib.Omega.{arith}
-use lib.ListN.{length}
-use Rattle.key_hint.proofs.Hinting.{Hinting, hinting-start, hinting-more, hinting-done}
+use Rattle.key_hint.proofs.Hinting.{hinting-start, hinting-more, hinting-done}
 use Rattle.key_hint.proofs.put_hints.Goals as goal
 
 pub loop-k-init : goal.loop-k-init

@@ -1,8 +1,7 @@
 -- `key_hint::put_hints` meets its contract: k hints have been put.
 use Prim.Native.Nat.{◌-◌}
-use native.Mathlib.Omega.{arith}
 use lib.ListN.{length}
-use Rattle.key_hint.proofs.Hinting.{Hinting, hinting-start, hinting-more, hinting-done}
+use Rattle.key_hint.proofs.Hinting.{Hinting}
 use Rattle.key_hint.proofs.put_hints.Given as goal
 
 abbrev pub invariant-loop-k : goal.invariant-loop-k

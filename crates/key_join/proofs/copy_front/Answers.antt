@@ -1,7 +1,5 @@
 -- `key_join::copy_front` meets its contract: what is passed is copied.
-use Prim.Native.Nat.{◌≤◌, ◌-◌}
-use mathlib.Core.Path.{◌≡◌}
-use lib.ListN.{length, take}
+use Prim.Native.Nat.{◌-◌}
 use borrow.Author.Rules.{rules}
 use Rattle.key_join.proofs.Copying.{copying}
 use Rattle.key_join.proofs.copy_front.Goals as goal

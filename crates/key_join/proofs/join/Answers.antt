@@ -2,7 +2,6 @@
 use Prim.Native.Nat.{◌-◌}
 use mathlib.Core.Path.{sym, ◌∙◌}
 use native.Mathlib.Omega.{arith}
-use borrow.Author.Rules.{rules}
 use Rattle.lists.proofs.Each.{each_at, each_take}
 use Rattle.key_join.proofs.Joining.{first_counted, stands-joined, second-read, parts-room, joined}
 use Rattle.key.proofs.ItemOrder.{item-order}

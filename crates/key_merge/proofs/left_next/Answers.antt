@@ -1,5 +1,4 @@
 -- `key_merge::left_next` meets its contract: a list that has ended gives nothing, and where both go on the keys decide.
-use borrow.Author.Rules.{rules}
 use native.Mathlib.Omega.{arith}
 use Rattle.lists.proofs.Each.{each_at}
 use Rattle.key_merge.proofs.Merging.{left_ended, right-ended, test-decides}

@@ -1,12 +1,7 @@
 -- `key_merge::merge` meets its contract: what is passed is merged, and the merge of the rest is still to be written.
-use Prim.Native.Nat.{◌+◌, ◌≤◌, ◌-◌}
-use mathlib.Core.Path.{◌≡◌}
-use mathlib.Core.List.{◌++◌}
+use Prim.Native.Nat.{◌-◌}
 use native.Mathlib.Omega.{arith}
-use lib.ListN.{length, take, drop}
 use borrow.Author.Rules.{rules}
-use Rattle.key.specs.ItemOrder.{item_leq}
-use Rattle.lists.specs.Lists.{merge_by}
 use Rattle.key_merge.proofs.Merging.{left-stands, right-stands, merge-starts, next-left, next-right, merged}
 use Rattle.key_merge.proofs.merge.Goals as goal
 

@@ -2,12 +2,9 @@
 use Prim.Native.Nat.{◌+◌, ◌≤◌, ◌-◌}
 use mathlib.Core.Path.{◌≡◌}
 use mathlib.Core.List.{◌++◌}
-use native.Mathlib.Omega.{arith}
 use lib.ListN.{length, take, drop}
-use borrow.Author.Rules.{rules}
 use Rattle.key.specs.ItemOrder.{item_leq}
 use Rattle.lists.specs.Lists.{merge_by}
-use Rattle.key_merge.proofs.Merging.{left-stands, right-stands, merge-starts, next-left, next-right, merged}
 use Rattle.key_merge.proofs.merge.Given as goal
 
 abbrev pub invariant-loop-i : goal.invariant-loop-i

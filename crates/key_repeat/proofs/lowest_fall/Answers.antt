@@ -2,11 +2,8 @@
 use Prim.Native.Nat.{◌+◌, ◌-◌}
 use mathlib.Core.Path.{sym, ◌∙◌}
 use native.Mathlib.Omega.{arith}
-use borrow.Author.Rules.{rules}
-use lib.ListN.{length}
-use Rattle.key.specs.ItemOrder.{item_leq}
 use Rattle.lists.proofs.Each.{each_at}
-use Rattle.key_repeat.proofs.Falling.{Falling, falling-start, climbs-on, falls-lower, falls-higher, falling-done}
+use Rattle.key_repeat.proofs.Falling.{falling-start, climbs-on, falls-lower, falls-higher, falling-done}
 use Rattle.key_repeat.proofs.lowest_fall.Goals as goal
 
 pub loop-k-init : goal.loop-k-init

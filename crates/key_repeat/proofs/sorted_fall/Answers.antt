@@ -1,5 +1,4 @@
 -- `key_repeat::sorted_fall` meets its contract: sorted, passed.
-use borrow.Author.Rules.{rules}
 use Rattle.key_sort.proofs.Numbered.{sorted-hinted}
 use Rattle.key_repeat.proofs.Falling.{sorted-falls}
 use Rattle.key_repeat.proofs.sorted_fall.Goals as goal

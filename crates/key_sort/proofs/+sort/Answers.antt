@@ -1,6 +1,6 @@
 -- `key_sort::sort` meets its contract: the length falls at each call, and sorted halves, joined, are the whole, sorted.
 use Rattle.lists.proofs.Each.{each_take}
-use Rattle.key_sort.proofs.Halves.{short-sorted, half-long, first-less, first-room, second-less, second-each, second-room, twice-each, twice-joins, twice-room, halves-sort}
+use Rattle.key_sort.proofs.Halves.{short-sorted, first-less, first-room, second-less, second-each, second-room, twice-each, twice-joins, halves-sort}
 use Rattle.key.proofs.ItemOrder.{item-order}
 use Rattle.key_sort.proofs.+sort.Goals as goal
 

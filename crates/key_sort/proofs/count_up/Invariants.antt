@@ -1,8 +1,7 @@
 -- `key_sort::count_up` meets its contract: k numbers are counted.
 use Prim.Native.Nat.{◌-◌}
-use native.Mathlib.Omega.{arith}
 use lib.ListN.{length}
-use Rattle.key_sort.proofs.Counting.{Counting, counting-start, counting_more, counting-done}
+use Rattle.key_sort.proofs.Counting.{Counting}
 use Rattle.key_sort.proofs.count_up.Given as goal
 
 abbrev pub invariant-loop-k : goal.invariant-loop-k

@@ -1,6 +1,5 @@
 -- `key_sort::sorted` meets its contract: hints put, numbers counted up, and sorted where the keys do not climb already.
 use mathlib.Core.Path.{sym, ◌∙◌}
-use borrow.Author.Rules.{rules}
 use Rattle.key_sort.proofs.Numbered.{to-hint, counted-hinted, counted-room, counted-items, climb-sorted, numbers-sorted}
 use Rattle.key_sort.proofs.sorted.Goals as goal
 

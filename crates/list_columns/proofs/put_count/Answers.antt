@@ -1,7 +1,6 @@
 -- `list_columns::put_count` meets its contract: the name, and the number at the line's end.
 use mathlib.Core.Path.{refl}
 use native.Mathlib.Omega.{arith}
-use borrow.Author.Rules.{rules}
 use Rattle.list_digits.proofs.TextLaws.{retold}
 use Rattle.list_columns.specs.Listing.{count_line}
 use Rattle.list_columns.proofs.put_count.Goals as goal

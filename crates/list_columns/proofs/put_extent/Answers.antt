@@ -1,6 +1,5 @@
 -- `list_columns::put_extent` meets its contract: column after column.
 use native.Mathlib.Omega.{arith}
-use borrow.Author.Rules.{rules}
 use Rattle.list_digits.proofs.TextLaws.{retold}
 use Rattle.list_columns.proofs.ColumnLaws.{two, extent-line}
 use Rattle.list_columns.proofs.put_extent.Goals as goal

@@ -1,6 +1,5 @@
 -- `list_columns::put_named` meets its contract: the name, and the number.
 use native.Mathlib.Omega.{arith}
-use borrow.Author.Rules.{rules}
 use Rattle.list_columns.proofs.ColumnLaws.{two}
 use Rattle.list_columns.proofs.put_named.Goals as goal
 

@@ -1,6 +1,5 @@
 -- `list_columns::put_pair` meets its contract: one number, and the other.
 use native.Mathlib.Omega.{arith}
-use borrow.Author.Rules.{rules}
 use Rattle.list_columns.proofs.ColumnLaws.{two}
 use Rattle.list_columns.proofs.put_pair.Goals as goal
 

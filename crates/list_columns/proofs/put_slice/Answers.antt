@@ -1,6 +1,5 @@
 -- `list_columns::put_slice` meets its contract: column after column.
 use native.Mathlib.Omega.{arith}
-use borrow.Author.Rules.{rules}
 use Rattle.list_columns.specs.Columns.{slice_cells}
 use Rattle.list_columns.proofs.ColumnLaws.{two}
 use Rattle.list_columns.proofs.put_slice.Goals as goal

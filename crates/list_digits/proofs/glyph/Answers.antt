@@ -1,5 +1,4 @@
 -- `list_digits::glyph` meets its contract: the two ranges of digits.
-use borrow.Author.Rules.{rules}
 use Rattle.list_digits.proofs.TextLaws.{low_digit, high_digit}
 use Rattle.list_digits.proofs.glyph.Goals as goal
 

@@ -1,8 +1,8 @@
 -- `list_digits::put_hex` meets its contract: i bytes are spelled.
 use Prim.Native.Nat.{◌-◌}
 use native.Mathlib.Omega.{arith}
-use lib.ListN.{length, length-set}
-use Rattle.list_digits.proofs.TextLaws.{Spelling, spelling-start, spelling-more, spelling-done}
+use lib.ListN.{length-set}
+use Rattle.list_digits.proofs.TextLaws.{spelling-start, spelling-more, spelling-done}
 use Rattle.list_digits.proofs.put_hex.Goals as goal
 
 pub loop-i-init : goal.loop-i-init

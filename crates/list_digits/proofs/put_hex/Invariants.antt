@@ -1,8 +1,7 @@
 -- `list_digits::put_hex` meets its contract: i bytes are spelled.
 use Prim.Native.Nat.{◌-◌}
-use native.Mathlib.Omega.{arith}
-use lib.ListN.{length, length-set}
-use Rattle.list_digits.proofs.TextLaws.{Spelling, spelling-start, spelling-more, spelling-done}
+use lib.ListN.{length}
+use Rattle.list_digits.proofs.TextLaws.{Spelling}
 use Rattle.list_digits.proofs.put_hex.Given as goal
 
 abbrev pub invariant-loop-i : goal.invariant-loop-i

@@ -1,6 +1,5 @@
 -- `list_digits::put_number` meets its contract: what io spells is a word.
 use native.Mathlib.Omega.{arith}
-use borrow.Author.Rules.{rules}
 use Rattle.list_digits.proofs.TextLaws.{word-short, spelled-word}
 use Rattle.list_digits.proofs.put_number.Goals as goal
 

@@ -1,7 +1,6 @@
 -- `list_input::more` meets its contract: what is put is the part of what the input is.
 use mathlib.Core.Path.{◌∙◌, refl}
 use native.Mathlib.Omega.{arith}
-use borrow.Author.Rules.{rules}
 use Rattle.check_book.proofs.Readable.{checked-readable}
 use Rattle.list_digits.proofs.TextLaws.{nothing}
 use Rattle.list_input.proofs.PartLaws.{part-full, part-long, part-refused, part-listed, check-told, part-told}

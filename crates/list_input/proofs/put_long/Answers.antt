@@ -1,6 +1,5 @@
 -- `list_input::put_long` meets its contract: the line at the first place, nothing at another.
 use native.Mathlib.Omega.{arith}
-use borrow.Author.Rules.{rules}
 use Rattle.list_input.proofs.PartLaws.{only-first, only-later}
 use Rattle.list_input.proofs.put_long.Goals as goal
 

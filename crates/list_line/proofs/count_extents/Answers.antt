@@ -1,10 +1,9 @@
 -- `list_line::count_extents` meets its contract: the extents of k records are counted.
 use Prim.Native.Nat.{◌-◌}
 use native.Mathlib.Omega.{arith}
-use Rattle.segment.specs.Format.{header_of}
 use Rattle.check_book.proofs.Readable.{record-inside}
 use Rattle.check_book.proofs.Rows.{few-extents}
-use Rattle.list_line.proofs.LinesPut.{Counting, counting-start, counting_more, counting-done}
+use Rattle.list_line.proofs.LinesPut.{counting-start, counting_more, counting-done}
 use Rattle.list_line.proofs.count_extents.Goals as goal
 
 pub loop-k-init : goal.loop-k-init

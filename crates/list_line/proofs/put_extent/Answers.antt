@@ -1,6 +1,5 @@
 -- `list_line::put_extent` meets its contract: past the records, past the record's extents, or the extent's line.
 use native.Mathlib.Omega.{arith}
-use borrow.Author.Rules.{rules}
 use Rattle.check_book.proofs.Readable.{record-inside}
 use Rattle.check_book.proofs.Rows.{record-known, few-extents}
 use Rattle.list_line.proofs.LinesPut.{extents-done, extent-past, extent-put}

@@ -1,5 +1,4 @@
 -- `list_line::put_piece` meets its contract: place by place.
-use borrow.Author.Rules.{rules}
 use Rattle.list_line.proofs.LinesPut.{at-record-count, at-extent-count, at-record, at-extent, at-end}
 use Rattle.list_line.proofs.put_piece.Goals as goal
 

@@ -1,7 +1,6 @@
 -- `list_line::put_record` meets its contract: past the records, or the record's line.
 use mathlib.Core.Path.{refl}
 use native.Mathlib.Omega.{arith}
-use borrow.Author.Rules.{rules}
 use Rattle.check_book.proofs.Readable.{record-inside}
 use Rattle.check_book.proofs.Rows.{record-known}
 use Rattle.list_line.proofs.ListedRows.{digest-short}

@@ -1,6 +1,5 @@
 -- `list_record::put_identity` meets its contract: column after column.
 use native.Mathlib.Omega.{arith}
-use borrow.Author.Rules.{rules}
 use Rattle.list_columns.proofs.ColumnLaws.{two}
 use Rattle.list_record.proofs.put_identity.Goals as goal
 

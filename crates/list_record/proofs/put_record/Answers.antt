@@ -1,6 +1,5 @@
 -- `list_record::put_record` meets its contract: group after group.
 use native.Mathlib.Omega.{arith}
-use borrow.Author.Rules.{rules}
 use Rattle.list_digits.proofs.TextLaws.{retold}
 use Rattle.list_columns.proofs.ColumnLaws.{three}
 use Rattle.list_record.proofs.Cells.{record-line}

@@ -1,6 +1,5 @@
 -- `list_state::put_source` meets its contract: a dash, or the domain.
 use native.Mathlib.Omega.{arith}
-use borrow.Author.Rules.{rules}
 use Rattle.list_digits.proofs.TextLaws.{retold}
 use Rattle.list_state.proofs.Words.{no-source-cell, source-cell}
 use Rattle.list_state.proofs.put_source.Goals as goal

@@ -1,6 +1,5 @@
 -- `list_state::put_standing` meets its contract: column after column.
 use native.Mathlib.Omega.{arith}
-use borrow.Author.Rules.{rules}
 use Rattle.list_columns.specs.Columns.{standing_cells}
 use Rattle.list_columns.proofs.ColumnLaws.{three}
 use Rattle.list_state.proofs.put_standing.Goals as goal

@@ -1,6 +1,5 @@
 -- `list_state::put_state` meets its contract: one word or the other.
 use native.Mathlib.Omega.{arith}
-use borrow.Author.Rules.{rules}
 use Rattle.list_digits.proofs.TextLaws.{retold}
 use Rattle.list_state.proofs.Words.{gone-cell, live-cell}
 use Rattle.list_state.proofs.put_state.Goals as goal

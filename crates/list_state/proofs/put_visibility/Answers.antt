@@ -1,6 +1,5 @@
 -- `list_state::put_visibility` meets its contract: one word or the other.
 use native.Mathlib.Omega.{arith}
-use borrow.Author.Rules.{rules}
 use Rattle.list_digits.proofs.TextLaws.{retold}
 use Rattle.list_state.proofs.Words.{internal-cell, published-cell}
 use Rattle.list_state.proofs.put_visibility.Goals as goal

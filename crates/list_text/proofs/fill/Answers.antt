@@ -1,11 +1,7 @@
 -- `list_text::fill` meets its contract: what is put, and what is filled from the place that it has come to, are the whole.
 use native.Mathlib.Omega.{arith}
-use borrow.Author.Rules.{rules}
-use Rattle.segment.specs.Format.{v3}
-use Rattle.segment.specs.Meaning.{meaning_of}
-use Rattle.list_place.specs.Pieces.{pieces_from}
 use Rattle.check_book.proofs.Readable.{read}
-use Rattle.list_text.proofs.Fills.{Filling, filling-start, filling-more, filling-less, filling-done, filling-full}
+use Rattle.list_text.proofs.Fills.{filling-start, filling-more, filling-less, filling-done, filling-full}
 use Rattle.list_text.proofs.fill.Goals as goal
 
 pub of-h-requires : goal.of-h-requires

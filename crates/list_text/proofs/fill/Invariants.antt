@@ -1,11 +1,8 @@
 -- `list_text::fill` meets its contract: what is put, and what is filled from the place that it has come to, are the whole.
-use native.Mathlib.Omega.{arith}
-use borrow.Author.Rules.{rules}
 use Rattle.segment.specs.Format.{v3}
 use Rattle.segment.specs.Meaning.{meaning_of}
 use Rattle.list_place.specs.Pieces.{pieces_from}
-use Rattle.check_book.proofs.Readable.{read}
-use Rattle.list_text.proofs.Fills.{Filling, filling-start, filling-more, filling-less, filling-done, filling-full}
+use Rattle.list_text.proofs.Fills.{Filling}
 use Rattle.list_text.proofs.fill.Given as goal
 
 abbrev pub invariant-loop-out : goal.invariant-loop-out

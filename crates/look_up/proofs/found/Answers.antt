@@ -1,5 +1,4 @@
 -- `look_up::found` meets its contract: gone, or present.
-use borrow.Author.Rules.{rules}
 use native.Mathlib.Omega.{arith}
 use Rattle.look_up.proofs.Finding.{found-gone, found-live}
 use Rattle.look_up.proofs.found.Goals as goal

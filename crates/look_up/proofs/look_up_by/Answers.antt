@@ -1,9 +1,7 @@
 -- `look_up::look_up_by` meets its contract: the table, and then the rest under the copied table.
 use mathlib.Core.Path.{◌≡◌, ap, ◌∙◌, sym}
 use mathlib.Core.Bool.{true}
-use borrow.Author.Rules.{rules}
 use native.Mathlib.Omega.{arith}
-use Rattle.lists.proofs.Tests.{was-true, was-false}
 use Rattle.table.specs.Table.{good_table}
 use Rattle.table.proofs.Pairs.{sized, in-front, front-is, front_long}
 use Rattle.look_up.proofs.Finding.{table-bad, table-good}

@@ -1,7 +1,6 @@
 -- `look_up::look_up_under` meets its contract: the key, the segment, and then the record.
 use mathlib.Core.Bool.{not}
 use mathlib.Core.Path.{sym, ◌∙◌, ap}
-use borrow.Author.Rules.{rules}
 use Rattle.segment.specs.Format.{v3}
 use Rattle.segment.proofs.Shapes.{v3-shaped}
 use Rattle.check_book.proofs.Readable.{under-readable}

@@ -1,5 +1,4 @@
 -- `look_up_extents::cut` meets its contract: the bytes between two places.
-use borrow.Author.Rules.{rules}
 use Rattle.look_up_extents.proofs.Parts.{between}
 use Rattle.look_up_extents.proofs.cut.Goals as goal
 

@@ -1,7 +1,5 @@
 -- `look_up_extents::extents_of_by` meets its contract: each answer's own part.
-use borrow.Author.Rules.{rules}
 use native.Mathlib.Omega.{arith}
-use Rattle.segment.specs.Keys.{key_from}
 use Rattle.look_up_extents.proofs.Parts.{inside, part-absent, part-gone, part-present, part-refused}
 use Rattle.look_up_extents.proofs.extents_of_by.Goals as goal
 

@@ -1,5 +1,4 @@
 -- `put_fields::put_behind` meets its contract: a wide total, or nothing.
-use borrow.Author.Rules.{rules}
 use Rattle.put_fields.proofs.Packing.{total-behind, none-behind, room-behind}
 use Rattle.put_fields.proofs.put_behind.Goals as goal
 

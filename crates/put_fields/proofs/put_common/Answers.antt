@@ -1,6 +1,5 @@
 -- `put_fields::put_common` meets its contract: group after group.
 use native.Mathlib.Omega.{arith}
-use borrow.Author.Rules.{rules}
 use Rattle.put_fields.specs.Groups.{identity_fields, slices_fields, owner_fields, mark_fields, common_fields}
 use Rattle.form_laws.proofs.PackedFields.{widths}
 use Rattle.put_fields.proofs.Packing.{group-first, group-next}

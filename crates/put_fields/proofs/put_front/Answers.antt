@@ -1,6 +1,5 @@
 -- `put_fields::put_front` meets its contract: group after group.
 use native.Mathlib.Omega.{arith}
-use borrow.Author.Rules.{rules}
 use Rattle.put_fields.specs.Groups.{kind_fields, count_fields, front_fields}
 use Rattle.form_laws.proofs.PackedFields.{widths}
 use Rattle.put_fields.proofs.Packing.{group-first, group-next}

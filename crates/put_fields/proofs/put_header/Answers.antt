@@ -1,6 +1,5 @@
 -- `put_fields::put_header` meets its contract: group after group.
 use native.Mathlib.Omega.{arith}
-use borrow.Author.Rules.{rules}
 use Rattle.segment.specs.Tidy.{header_fields}
 use Rattle.put_fields.specs.Groups.{kind_fields, count_fields, front_fields, section_fields, extents_owner_fields, last_fields}
 use Rattle.form_laws.proofs.PackedFields.{widths}

@@ -1,6 +1,5 @@
 -- `put_fields::put_last` meets its contract: field after field.
 use native.Mathlib.Omega.{arith}
-use borrow.Author.Rules.{rules}
 use Rattle.put_fields.specs.Groups.{last_fields}
 use Rattle.form_laws.proofs.PackedFields.{widths}
 use Rattle.put_fields.proofs.Packing.{field-first, field_next}

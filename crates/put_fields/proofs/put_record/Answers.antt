@@ -1,6 +1,5 @@
 -- `put_fields::put_record` meets its contract: the fields that every version has, and what stands behind them.
 use native.Mathlib.Omega.{arith}
-use borrow.Author.Rules.{rules}
 use Rattle.segment.specs.Tidy.{record_fields, total_behind}
 use Rattle.segment.proofs.Shapes.{shaped-least, fields-inside, total_inside}
 use Rattle.form_laws.proofs.PackedFields.{widths}

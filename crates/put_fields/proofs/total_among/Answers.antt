@@ -1,5 +1,4 @@
 -- `put_fields::total_among` meets its contract: nothing where the total is wide, else its lowest bytes.
-use borrow.Author.Rules.{rules}
 use Rattle.put_fields.proofs.Packing.{no-total-among, total-narrowed}
 use Rattle.put_fields.proofs.total_among.Goals as goal
 

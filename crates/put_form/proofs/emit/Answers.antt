@@ -2,9 +2,7 @@
 use Prim.Native.Nat.{ℕ, ◌≤◌}
 use mathlib.Core.Path.{◌≡◌, sym}
 use native.Mathlib.Omega.{arith}
-use borrow.Author.Rules.{rules}
 use lib.Seq.{length-take-le}
-use Rattle.segment.specs.Format.{extents_offset, extent_count}
 use Rattle.put_item.proofs.ItemRows.{counted-lines}
 use Rattle.put_form.proofs.Planning.{moderate, bounded, form-header, form-long, plan, too_large, no_room, written, bloom-large}
 use Rattle.put_form.proofs.emit.Goals as goal
@@ -58,8 +56,13 @@ slice_bounds-put_form-end-2 c = sym (length-take-le _ _ (omega arith))
 
 pub put_form-requires : goal.put_form-requires
 put_form-requires c =
-    let a = c.args in record { lines = c.requires.lines; shaped = c.requires.shaped; plan = plan a.kind a.bytes.now a.list.now a.extents.now _ c.requires.shaped a.t a.bloom.now a.numbers.now c.requires.lines c.requires.numbers_len_bound _ c.measure-s.ensures _ c.header_for-h.ensures _ (length-take-le _ _ (omega (arith, c.if-out-n.false)))
-              (cut (length-take-le _ _ (omega (arith, c.if-out-n.false))) c.if-n-gt-LIMIT.false); h_value = form-header a.kind a.bytes.now a.list.now a.extents.now _ c.requires.shaped a.t a.bloom.now a.numbers.now c.requires.lines c.requires.numbers_len_bound _ c.measure-s.ensures _ c.header_for-h.ensures }
+    let a = c.args in record {
+      lines = c.requires.lines;
+      shaped = c.requires.shaped;
+      plan = plan a.kind a.bytes.now a.list.now a.extents.now _ c.requires.shaped a.t a.bloom.now a.numbers.now c.requires.lines c.requires.numbers_len_bound _ c.measure-s.ensures _ c.header_for-h.ensures _ (length-take-le _ _ (omega (arith, c.if-out-n.false)))
+          (cut (length-take-le _ _ (omega (arith, c.if-out-n.false))) c.if-n-gt-LIMIT.false);
+      h_value = form-header a.kind a.bytes.now a.list.now a.extents.now _ c.requires.shaped a.t a.bloom.now a.numbers.now c.requires.lines c.requires.numbers_len_bound _ c.measure-s.ensures _ c.header_for-h.ensures;
+    }
 
 pub returns : goal.returns
 returns c =

@@ -2,7 +2,6 @@
 use Prim.Native.Nat.{◌*◌, ◌≤◌}
 use native.Mathlib.Nat.{mul-le-mul}
 use native.Mathlib.Omega.{arith}
-use borrow.Author.Rules.{rules}
 use Rattle.segment.proofs.Shapes.{shaped-most}
 use Rattle.put_form.specs.Emit.{header_for}
 use Rattle.put_form.proofs.header_for.Goals as goal

@@ -1,6 +1,5 @@
 -- `put_form::put_body` meets its contract: header, bloom bytes and sections, one behind the other.
 use native.Mathlib.Omega.{arith}
-use borrow.Author.Rules.{rules}
 use Rattle.put_form.proofs.Body.{head-room, long₁, same-plan, body-done}
 use Rattle.put_form.proofs.put_body.Goals as goal
 

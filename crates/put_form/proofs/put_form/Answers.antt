@@ -1,7 +1,6 @@
 -- `put_form::put_form` meets its contract: everything before the footer, its checksum, and the footer.
 use mathlib.Core.Path.{sym}
 use native.Mathlib.Omega.{arith}
-use borrow.Author.Rules.{rules}
 use lib.Seq.{length-take-le}
 use Rattle.put_form.proofs.Body.{records-at, body-room, form-done}
 use Rattle.put_form.proofs.put_form.Goals as goal

@@ -2,7 +2,6 @@
 use Prim.Native.Nat.{◌-◌, ◌≤◌}
 use mathlib.Core.Path.{◌∙◌}
 use native.Mathlib.Omega.{arith}
-use borrow.Author.Rules.{rules}
 use lib.ListN.{length}
 use Rattle.segment.specs.Format.{records_offset, digests_offset, extents_offset}
 use Rattle.put_item.proofs.ItemRows.{read-lines}
@@ -12,25 +11,25 @@ use Rattle.put_form.proofs.put_sections.Goals as goal
 pub overflow_sub-end : goal.overflow_sub-end
 overflow_sub-end c =
     let stretches : let h = c.args.h in let out = length c.args.out.now in (records_offset h ≤ digests_offset h) × (digests_offset h ≤ extents_offset h) × (extents_offset h ≤ out - 24) × (24 ≤ out) = let p = places _ c.requires.shaped _ _ _ c.args.out.now c.requires.plan in
-        (p.one, p.two, p.three, p.footer) in
+    (p.one, p.two, p.three, p.footer) in
     omega (arith, stretches)
 
 pub slice_bounds-put_records-count : goal.slice_bounds-put_records-count
 slice_bounds-put_records-count c =
     let stretches : let h = c.args.h in let out = length c.args.out.now in (records_offset h ≤ digests_offset h) × (digests_offset h ≤ extents_offset h) × (extents_offset h ≤ out - 24) × (24 ≤ out) = let p = places _ c.requires.shaped _ _ _ c.args.out.now c.requires.plan in
-        (p.one, p.two, p.three, p.footer) in
+    (p.one, p.two, p.three, p.footer) in
     omega (arith, stretches)
 
 pub slice_bounds-put_records-start : goal.slice_bounds-put_records-start
 slice_bounds-put_records-start c =
     let stretches : let h = c.args.h in let out = length c.args.out.now in (records_offset h ≤ digests_offset h) × (digests_offset h ≤ extents_offset h) × (extents_offset h ≤ out - 24) × (24 ≤ out) = let p = places _ c.requires.shaped _ _ _ c.args.out.now c.requires.plan in
-        (p.one, p.two, p.three, p.footer) in
+    (p.one, p.two, p.three, p.footer) in
     omega (arith, stretches)
 
 pub slice_bounds-put_records-end : goal.slice_bounds-put_records-end
 slice_bounds-put_records-end c =
     let stretches : let h = c.args.h in let out = length c.args.out.now in (records_offset h ≤ digests_offset h) × (digests_offset h ≤ extents_offset h) × (extents_offset h ≤ out - 24) × (24 ≤ out) = let p = places _ c.requires.shaped _ _ _ c.args.out.now c.requires.plan in
-        (p.one, p.two, p.three, p.footer) in
+    (p.one, p.two, p.three, p.footer) in
     omega (arith, stretches)
 
 pub put_records-requires : goal.put_records-requires
@@ -42,19 +41,19 @@ put_records-requires c =
 pub slice_bounds-put_digest_section-count : goal.slice_bounds-put_digest_section-count
 slice_bounds-put_digest_section-count c =
     let stretches : let h = c.args.h in let out = length c.args.out.now in (records_offset h ≤ digests_offset h) × (digests_offset h ≤ extents_offset h) × (extents_offset h ≤ out - 24) × (24 ≤ out) = let p = places _ c.requires.shaped _ _ _ c.args.out.now c.requires.plan in
-        (p.one, p.two, p.three, p.footer) in
+    (p.one, p.two, p.three, p.footer) in
     omega (arith, stretches)
 
 pub slice_bounds-put_digest_section-start : goal.slice_bounds-put_digest_section-start
 slice_bounds-put_digest_section-start c =
     let stretches : let h = c.args.h in let out = length c.args.out.now in (records_offset h ≤ digests_offset h) × (digests_offset h ≤ extents_offset h) × (extents_offset h ≤ out - 24) × (24 ≤ out) = let p = places _ c.requires.shaped _ _ _ c.args.out.now c.requires.plan in
-        (p.one, p.two, p.three, p.footer) in
+    (p.one, p.two, p.three, p.footer) in
     omega (arith, stretches)
 
 pub slice_bounds-put_digest_section-end : goal.slice_bounds-put_digest_section-end
 slice_bounds-put_digest_section-end c =
     let stretches : let h = c.args.h in let out = length c.args.out.now in (records_offset h ≤ digests_offset h) × (digests_offset h ≤ extents_offset h) × (extents_offset h ≤ out - 24) × (24 ≤ out) = let p = places _ c.requires.shaped _ _ _ c.args.out.now c.requires.plan in
-        (p.one, p.two, p.three, p.footer) in
+    (p.one, p.two, p.three, p.footer) in
     omega (arith, stretches)
 
 pub put_digest_section-requires : goal.put_digest_section-requires
@@ -66,19 +65,19 @@ put_digest_section-requires c =
 pub slice_bounds-put_extents-count : goal.slice_bounds-put_extents-count
 slice_bounds-put_extents-count c =
     let stretches : let h = c.args.h in let out = length c.args.out.now in (records_offset h ≤ digests_offset h) × (digests_offset h ≤ extents_offset h) × (extents_offset h ≤ out - 24) × (24 ≤ out) = let p = places _ c.requires.shaped _ _ _ c.args.out.now c.requires.plan in
-        (p.one, p.two, p.three, p.footer) in
+    (p.one, p.two, p.three, p.footer) in
     omega (arith, stretches)
 
 pub slice_bounds-put_extents-start : goal.slice_bounds-put_extents-start
 slice_bounds-put_extents-start c =
     let stretches : let h = c.args.h in let out = length c.args.out.now in (records_offset h ≤ digests_offset h) × (digests_offset h ≤ extents_offset h) × (extents_offset h ≤ out - 24) × (24 ≤ out) = let p = places _ c.requires.shaped _ _ _ c.args.out.now c.requires.plan in
-        (p.one, p.two, p.three, p.footer) in
+    (p.one, p.two, p.three, p.footer) in
     omega (arith, stretches)
 
 pub slice_bounds-put_extents-end : goal.slice_bounds-put_extents-end
 slice_bounds-put_extents-end c =
     let stretches : let h = c.args.h in let out = length c.args.out.now in (records_offset h ≤ digests_offset h) × (digests_offset h ≤ extents_offset h) × (extents_offset h ≤ out - 24) × (24 ≤ out) = let p = places _ c.requires.shaped _ _ _ c.args.out.now c.requires.plan in
-        (p.one, p.two, p.three, p.footer) in
+    (p.one, p.two, p.three, p.footer) in
     omega (arith, stretches)
 
 pub put_extents-requires : goal.put_extents-requires

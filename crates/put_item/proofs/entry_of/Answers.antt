@@ -1,6 +1,5 @@
 -- `put_item::entry_of` meets its contract: each kind's own numbers.
 use native.Mathlib.Omega.{arith}
-use borrow.Author.Rules.{rules}
 use Rattle.key.proofs.KeyColumns.{record-stands, entry-stands}
 use Rattle.put_item.proofs.ItemColumns.{record-entry, entry-entry}
 use Rattle.put_item.proofs.entry_of.Goals as goal

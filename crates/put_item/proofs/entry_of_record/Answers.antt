@@ -1,5 +1,4 @@
 -- `put_item::entry_of_record` meets its contract: field by field.
-use borrow.Author.Rules.{rules}
 use Rattle.put_item.specs.Lines.{record_entry}
 use Rattle.put_item.proofs.entry_of_record.Goals as goal
 

@@ -1,6 +1,5 @@
 -- `put_item::extent_of` meets its contract: each kind's own extents.
 use native.Mathlib.Omega.{arith}
-use borrow.Author.Rules.{rules}
 use Rattle.put_item.proofs.ItemColumns.{record-held, entry-held, record-extent, entry-extent}
 use Rattle.put_item.proofs.extent_of.Goals as goal
 

@@ -1,5 +1,4 @@
 -- `put_item::listed_extent` meets its contract: the three numbers, cut.
-use borrow.Author.Rules.{rules}
 use Rattle.put_item.proofs.ItemColumns.{cut-extent}
 use Rattle.put_item.proofs.listed_extent.Goals as goal
 

@@ -1,10 +1,8 @@
 -- `put_item::measure` meets its contract: k of the items are counted.
-use Prim.Native.Nat.{◌-◌, ◌≤◌, ◌<◌}
-use borrow.Author.Rules.{rules}
+use Prim.Native.Nat.{◌-◌}
 use native.Mathlib.Omega.{arith}
-use lib.ListN.{length}
 use Rattle.lists.proofs.Each.{each_at}
-use Rattle.put_item.proofs.Measuring.{Measuring, measuring-start, measuring-more, measuring-done, next_small}
+use Rattle.put_item.proofs.Measuring.{measuring-start, measuring-more, measuring-done, next_small}
 use Rattle.put_item.proofs.measure.Goals as goal
 
 pub loop-k-init : goal.loop-k-init

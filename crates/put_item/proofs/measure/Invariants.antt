@@ -1,10 +1,7 @@
 -- `put_item::measure` meets its contract: k of the items are counted.
-use Prim.Native.Nat.{◌-◌, ◌≤◌, ◌<◌}
-use borrow.Author.Rules.{rules}
-use native.Mathlib.Omega.{arith}
+use Prim.Native.Nat.{◌-◌}
 use lib.ListN.{length}
-use Rattle.lists.proofs.Each.{each_at}
-use Rattle.put_item.proofs.Measuring.{Measuring, measuring-start, measuring-more, measuring-done, next_small}
+use Rattle.put_item.proofs.Measuring.{Measuring}
 use Rattle.put_item.proofs.measure.Given as goal
 
 abbrev pub invariant-loop-k : goal.invariant-loop-k

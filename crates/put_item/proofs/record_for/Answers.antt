@@ -1,6 +1,5 @@
 -- `put_item::record_for` meets its contract: field by field.
 use native.Mathlib.Omega.{arith}
-use borrow.Author.Rules.{rules}
 use Rattle.put_item.specs.Lines.{record_of_entry}
 use Rattle.put_item.proofs.record_for.Goals as goal
 

@@ -1,7 +1,7 @@
 -- `put_item::sum_listed` meets its contract: j of the extents are added up.
 use Prim.Native.Nat.{◌-◌}
 use native.Mathlib.Omega.{arith}
-use Rattle.put_item.proofs.ItemColumns.{Adding, adding-start, adding-fits, adding-more, adding-done}
+use Rattle.put_item.proofs.ItemColumns.{adding-start, adding-fits, adding-more, adding-done}
 use Rattle.put_item.proofs.sum_listed.Goals as goal
 
 pub loop-j-init : goal.loop-j-init

@@ -1,6 +1,5 @@
 -- `put_item::total_of` meets its contract: each kind's own total.
 use native.Mathlib.Omega.{arith}
-use borrow.Author.Rules.{rules}
 use Rattle.segment.proofs.Shapes.{total_inside}
 use Rattle.key.proofs.KeyColumns.{record-stands, entry-stands}
 use Rattle.put_item.proofs.ItemColumns.{record-total, listed-held, listed-fits, entry-total}

@@ -1,8 +1,7 @@
 -- `put_sections::clear` meets its contract: i bytes are 0.
 use Prim.Native.Nat.{◌-◌}
 use native.Mathlib.Omega.{arith}
-use lib.ListN.{length}
-use Rattle.put_sections.proofs.Runs.{Clearing, clearing-start, clearing-more, clearing-done}
+use Rattle.put_sections.proofs.Runs.{clearing-start, clearing-more, clearing-done}
 use Rattle.put_sections.proofs.clear.Goals as goal
 
 pub loop-i-init : goal.loop-i-init

@@ -1,8 +1,7 @@
 -- `put_sections::copy_bytes` meets its contract: i bytes are copied.
 use Prim.Native.Nat.{◌-◌}
 use native.Mathlib.Omega.{arith}
-use lib.ListN.{length}
-use Rattle.numbers.proofs.Copies.{Copying, copying-start, copying-more, copying-done}
+use Rattle.numbers.proofs.Copies.{copying-start, copying-more, copying-done}
 use Rattle.put_sections.proofs.copy_bytes.Goals as goal
 
 pub loop-i-init : goal.loop-i-init

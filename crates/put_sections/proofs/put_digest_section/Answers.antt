@@ -1,7 +1,6 @@
 -- `put_sections::put_digest_section` meets its contract: the digests in front, zeros behind them.
 use mathlib.Core.Path.{sym}
 use native.Mathlib.Omega.{arith}
-use borrow.Author.Rules.{rules}
 use lib.Seq.{length-take-le}
 use Rattle.put_sections.proofs.Lends.{front-as-long, section-done}
 use Rattle.put_sections.proofs.put_digest_section.Goals as goal

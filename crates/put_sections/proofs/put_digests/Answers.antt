@@ -3,7 +3,7 @@ use Prim.Native.Nat.{◌+◌, ◌-◌, ◌≤◌}
 use native.Mathlib.Omega.{arith}
 use lib.ListN.{length}
 use Rattle.lists.proofs.Each.{each_at}
-use Rattle.put_sections.proofs.Turns.{Digesting, digesting-start, digesting-room, digesting-more, digesting-done}
+use Rattle.put_sections.proofs.Turns.{digesting-start, digesting-room, digesting-more, digesting-done}
 use Rattle.put_sections.proofs.put_digests.Goals as goal
 
 pub loop-k-init : goal.loop-k-init

@@ -1,9 +1,7 @@
 -- `put_sections::put_digests` meets its contract: the digests of k items are put.
-use Prim.Native.Nat.{◌+◌, ◌-◌, ◌≤◌}
-use native.Mathlib.Omega.{arith}
+use Prim.Native.Nat.{◌-◌}
 use lib.ListN.{length}
-use Rattle.lists.proofs.Each.{each_at}
-use Rattle.put_sections.proofs.Turns.{Digesting, digesting-start, digesting-room, digesting-more, digesting-done}
+use Rattle.put_sections.proofs.Turns.{Digesting}
 use Rattle.put_sections.proofs.put_digests.Given as goal
 
 abbrev pub invariant-loop-k : goal.invariant-loop-k

@@ -3,7 +3,7 @@ use Prim.Native.Nat.{◌+◌, ◌-◌, ◌*◌, ◌≤◌}
 use native.Mathlib.Omega.{arith}
 use lib.ListN.{length}
 use Rattle.lists.proofs.Each.{each_at}
-use Rattle.put_sections.proofs.Turns.{Extending, extending-start, extents-held, extending-room, extending-more, extending-done}
+use Rattle.put_sections.proofs.Turns.{extending-start, extents-held, extending-room, extending-more, extending-done}
 use Rattle.put_sections.proofs.put_extents.Goals as goal
 
 pub loop-k-init : goal.loop-k-init

@@ -1,9 +1,7 @@
 -- `put_sections::put_extents` meets its contract: the extents of k items are put.
-use Prim.Native.Nat.{◌+◌, ◌-◌, ◌*◌, ◌≤◌}
-use native.Mathlib.Omega.{arith}
+use Prim.Native.Nat.{◌-◌}
 use lib.ListN.{length}
-use Rattle.lists.proofs.Each.{each_at}
-use Rattle.put_sections.proofs.Turns.{Extending, extending-start, extents-held, extending-room, extending-more, extending-done}
+use Rattle.put_sections.proofs.Turns.{Extending}
 use Rattle.put_sections.proofs.put_extents.Given as goal
 
 abbrev pub invariant-loop-k : goal.invariant-loop-k

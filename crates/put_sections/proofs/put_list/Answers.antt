@@ -1,7 +1,7 @@
 -- `put_sections::put_list` meets its contract: j of the extents are put.
 use Prim.Native.Nat.{◌-◌}
 use native.Mathlib.Omega.{arith}
-use Rattle.put_sections.proofs.Runs.{held-fewer, Listing, listing_start, listing-more, listing-done}
+use Rattle.put_sections.proofs.Runs.{held-fewer, listing_start, listing-more, listing-done}
 use Rattle.put_sections.proofs.put_list.Goals as goal
 
 pub loop-j-init : goal.loop-j-init

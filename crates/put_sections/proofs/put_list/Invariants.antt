@@ -1,7 +1,6 @@
 -- `put_sections::put_list` meets its contract: j of the extents are put.
 use Prim.Native.Nat.{◌-◌}
-use native.Mathlib.Omega.{arith}
-use Rattle.put_sections.proofs.Runs.{held-fewer, Listing, listing_start, listing-more, listing-done}
+use Rattle.put_sections.proofs.Runs.{Listing}
 use Rattle.put_sections.proofs.put_list.Given as goal
 
 abbrev pub invariant-loop-j : goal.invariant-loop-j

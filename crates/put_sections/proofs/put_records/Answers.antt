@@ -5,7 +5,7 @@ use native.Mathlib.Omega.{arith}
 use lib.ListN.{length}
 use Rattle.lists.proofs.Each.{each_at}
 use Rattle.segment.proofs.Shapes.{records-fit}
-use Rattle.put_sections.proofs.Turns.{Recording, recording-start, record-room, record-small, recording-more, recording-done, record-narrow}
+use Rattle.put_sections.proofs.Turns.{recording-start, record-room, record-small, recording-more, recording-done, record-narrow}
 use Rattle.put_sections.proofs.put_records.Goals as goal
 
 pub loop-k-init : goal.loop-k-init
@@ -26,11 +26,11 @@ record_for-r-requires c = record-narrow _ c.requires.shaped _ _ _ _ _ _ _ _ _ _ 
 pub overflow_mul-sh : goal.overflow_mul-sh
 overflow_mul-sh c =
     let turn : (c.loop-k.k < 65536) × (c.loop-k.digest_at ≤ 68181557248) × (c.loop-k.extents_at ≤ 4504700701769728) = let near = c.requires.near in
-        let v = c.loop-k.invariant in (
-          omega (arith, c.loop-k-test.true, near.few),
-          omega (arith, c.loop-k-test.true, near.few, near.digests, v.short),
-          omega (arith, c.loop-k-test.true, near.few, near.extents, v.few),
-        ) in
+    let v = c.loop-k.invariant in (
+      omega (arith, c.loop-k-test.true, near.few),
+      omega (arith, c.loop-k-test.true, near.few, near.digests, v.short),
+      omega (arith, c.loop-k-test.true, near.few, near.extents, v.few),
+    ) in
     record { fits = records-fit _ c.requires.shaped _ (omega (arith, turn)) }
 
 pub put_record-requires : goal.put_record-requires
@@ -42,43 +42,43 @@ pub overflow_add-digest_at : goal.overflow_add-digest_at
 overflow_add-digest_at c =
     let small : (c.entry_of-e.result.digest_length ≤ 1024) × (c.entry_of-e.result.extent_count < 4294967296) = record-small _ c.requires.shaped _ _ _ _ _ _ _ _ _ _ _ c.loop-k.invariant _ (omega arith) c.entry_of-e.ensures c.requires.lines in
     let turn : (c.loop-k.k < 65536) × (c.loop-k.digest_at ≤ 68181557248) × (c.loop-k.extents_at ≤ 4504700701769728) = let near = c.requires.near in
-        let v = c.loop-k.invariant in (
-          omega (arith, c.loop-k-test.true, near.few),
-          omega (arith, c.loop-k-test.true, near.few, near.digests, v.short),
-          omega (arith, c.loop-k-test.true, near.few, near.extents, v.few),
-        ) in
+    let v = c.loop-k.invariant in (
+      omega (arith, c.loop-k-test.true, near.few),
+      omega (arith, c.loop-k-test.true, near.few, near.digests, v.short),
+      omega (arith, c.loop-k-test.true, near.few, near.extents, v.few),
+    ) in
     omega (arith, small, turn)
 
 pub overflow_mul-extents_at : goal.overflow_mul-extents_at
 overflow_mul-extents_at c =
     let small : (c.entry_of-e.result.digest_length ≤ 1024) × (c.entry_of-e.result.extent_count < 4294967296) = record-small _ c.requires.shaped _ _ _ _ _ _ _ _ _ _ _ c.loop-k.invariant _ (omega arith) c.entry_of-e.ensures c.requires.lines in
     let turn : (c.loop-k.k < 65536) × (c.loop-k.digest_at ≤ 68181557248) × (c.loop-k.extents_at ≤ 4504700701769728) = let near = c.requires.near in
-        let v = c.loop-k.invariant in (
-          omega (arith, c.loop-k-test.true, near.few),
-          omega (arith, c.loop-k-test.true, near.few, near.digests, v.short),
-          omega (arith, c.loop-k-test.true, near.few, near.extents, v.few),
-        ) in
+    let v = c.loop-k.invariant in (
+      omega (arith, c.loop-k-test.true, near.few),
+      omega (arith, c.loop-k-test.true, near.few, near.digests, v.short),
+      omega (arith, c.loop-k-test.true, near.few, near.extents, v.few),
+    ) in
     omega (arith, small, turn)
 
 pub overflow_add-extents_at : goal.overflow_add-extents_at
 overflow_add-extents_at c =
     let small : (c.entry_of-e.result.digest_length ≤ 1024) × (c.entry_of-e.result.extent_count < 4294967296) = record-small _ c.requires.shaped _ _ _ _ _ _ _ _ _ _ _ c.loop-k.invariant _ (omega arith) c.entry_of-e.ensures c.requires.lines in
     let turn : (c.loop-k.k < 65536) × (c.loop-k.digest_at ≤ 68181557248) × (c.loop-k.extents_at ≤ 4504700701769728) = let near = c.requires.near in
-        let v = c.loop-k.invariant in (
-          omega (arith, c.loop-k-test.true, near.few),
-          omega (arith, c.loop-k-test.true, near.few, near.digests, v.short),
-          omega (arith, c.loop-k-test.true, near.few, near.extents, v.few),
-        ) in
+    let v = c.loop-k.invariant in (
+      omega (arith, c.loop-k-test.true, near.few),
+      omega (arith, c.loop-k-test.true, near.few, near.digests, v.short),
+      omega (arith, c.loop-k-test.true, near.few, near.extents, v.few),
+    ) in
     omega (arith, small, turn)
 
 pub overflow_add-k : goal.overflow_add-k
 overflow_add-k c =
     let turn : (c.loop-k.k < 65536) × (c.loop-k.digest_at ≤ 68181557248) × (c.loop-k.extents_at ≤ 4504700701769728) = let near = c.requires.near in
-        let v = c.loop-k.invariant in (
-          omega (arith, c.loop-k-test.true, near.few),
-          omega (arith, c.loop-k-test.true, near.few, near.digests, v.short),
-          omega (arith, c.loop-k-test.true, near.few, near.extents, v.few),
-        ) in
+    let v = c.loop-k.invariant in (
+      omega (arith, c.loop-k-test.true, near.few),
+      omega (arith, c.loop-k-test.true, near.few, near.digests, v.short),
+      omega (arith, c.loop-k-test.true, near.few, near.extents, v.few),
+    ) in
     omega (arith, turn)
 
 pub loop-k-smaller : goal.loop-k-smaller

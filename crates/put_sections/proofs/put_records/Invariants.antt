@@ -1,11 +1,7 @@
 -- `put_sections::put_records` meets its contract: k records are put.
-use Prim.Native.Nat.{◌+◌, ◌-◌, ◌*◌, ◌≤◌, ◌<◌}
-use mathlib.Core.Path.{◌∙◌}
-use native.Mathlib.Omega.{arith}
+use Prim.Native.Nat.{◌-◌}
 use lib.ListN.{length}
-use Rattle.lists.proofs.Each.{each_at}
-use Rattle.segment.proofs.Shapes.{records-fit}
-use Rattle.put_sections.proofs.Turns.{Recording, recording-start, record-room, record-small, recording-more, recording-done, record-narrow}
+use Rattle.put_sections.proofs.Turns.{Recording}
 use Rattle.put_sections.proofs.put_records.Given as goal
 
 abbrev pub invariant-loop-k : goal.invariant-loop-k

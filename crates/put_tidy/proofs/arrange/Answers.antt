@@ -1,6 +1,5 @@
 -- `put_tidy::arrange` meets its contract: sorted, written.
 use native.Mathlib.Omega.{arith}
-use borrow.Author.Rules.{rules}
 use Rattle.key_sort.proofs.Numbered.{sorted-long}
 use Rattle.put_tidy.proofs.SortedItems.{lines-read, sorted-lines, sorted-wrote}
 use Rattle.put_tidy.proofs.arrange.Goals as goal

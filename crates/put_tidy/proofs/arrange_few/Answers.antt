@@ -1,7 +1,6 @@
 -- `put_tidy::arrange_few` meets its contract: the fronts of the arrays have as many numbers as there are items.
 use mathlib.Core.Path.{refl, sym}
 use native.Mathlib.Omega.{arith}
-use borrow.Author.Rules.{rules}
 use Rattle.key_sort.proofs.Counting.{front_long}
 use Rattle.put_tidy.proofs.SortedItems.{lent-lines, lent-wrote}
 use Rattle.put_tidy.proofs.arrange_few.Goals as goal

@@ -1,10 +1,8 @@
 -- `table::copied` meets its contract: after i turns i numbers stand in front of zeros.
 use Prim.Native.Nat.{◌-◌}
 use mathlib.Core.Path.{refl}
-use borrow.Author.Rules.{rules}
 use native.Mathlib.Omega.{arith}
-use lib.ListN.{length}
-use Rattle.table.proofs.Pairs.{Filling, filling-none, filling-more, filling-done}
+use Rattle.table.proofs.Pairs.{filling-none, filling-more, filling-done}
 use Rattle.table.proofs.copied.Goals as goal
 
 pub loop-i-init : goal.loop-i-init

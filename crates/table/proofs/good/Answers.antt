@@ -1,6 +1,5 @@
 -- `table::good` meets its contract: 1 to 16 good pairs.
 use mathlib.Core.Path.{◌∙◌}
-use borrow.Author.Rules.{rules}
 use native.Mathlib.Omega.{arith}
 use Rattle.table.proofs.Pairs.{empty-table, long-table, sized-table}
 use Rattle.table.proofs.good.Goals as goal

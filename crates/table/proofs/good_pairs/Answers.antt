@@ -1,10 +1,7 @@
 -- `table::good_pairs` meets its contract: what the whole list says is what its rest says.
 use Prim.Native.Nat.{◌-◌}
-use borrow.Author.Rules.{rules}
 use native.Mathlib.Omega.{arith}
-use lib.ListN.{length}
-use Rattle.table.specs.Table.{good_pairs}
-use Rattle.table.proofs.Pairs.{Rest, at-start, unfinished, hash-wide, too_short, too_long, twice, one-good, none_left}
+use Rattle.table.proofs.Pairs.{at-start, unfinished, hash-wide, too_short, too_long, twice, one-good, none_left}
 use Rattle.table.proofs.good_pairs.Goals as goal
 
 pub loop-k-init : goal.loop-k-init

@@ -1,10 +1,7 @@
 -- `table::stands` meets its contract: what the whole list says is what its rest says.
 use Prim.Native.Nat.{◌-◌}
-use borrow.Author.Rules.{rules}
 use native.Mathlib.Omega.{arith}
-use lib.ListN.{length}
-use Rattle.table.specs.Table.{stands}
-use Rattle.table.proofs.Pairs.{Rest, at-start, stands_here, stands-later, stands-nowhere}
+use Rattle.table.proofs.Pairs.{at-start, stands_here, stands-later, stands-nowhere}
 use Rattle.table.proofs.stands.Goals as goal
 
 pub loop-k-init : goal.loop-k-init

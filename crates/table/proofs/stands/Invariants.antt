@@ -1,10 +1,8 @@
 -- `table::stands` meets its contract: what the whole list says is what its rest says.
 use Prim.Native.Nat.{◌-◌}
-use borrow.Author.Rules.{rules}
-use native.Mathlib.Omega.{arith}
 use lib.ListN.{length}
 use Rattle.table.specs.Table.{stands}
-use Rattle.table.proofs.Pairs.{Rest, at-start, stands_here, stands-later, stands-nowhere}
+use Rattle.table.proofs.Pairs.{Rest}
 use Rattle.table.proofs.stands.Given as goal
 
 abbrev pub invariant-loop-k : goal.invariant-loop-k

@@ -1,5 +1,5 @@
 -- At place i the table says what its pairs from i on say.
-use Rattle.std.proofs.Common.{◌≡◌, ◌-◌, ◌≤◌, length, drop}
+use Rattle.std.proofs.Common.{◌≡◌, ◌-◌, length, drop}
 use Rattle.table_pairs.specs.Pairs.{length_in}
 use Rattle.table_pairs.proofs.length_in.Given as goal
 

@@ -1,6 +1,5 @@
 -- `theorem_engines::same_check` meets its contract: one value is promised of the two answers of check.
 use mathlib.Core.Path.{sym, ◌∙◌}
-use borrow.Author.Rules.{rules}
 use borrow.Author.Tests.{eq-eqb}
 use Rattle.theorem_engines.proofs.same_check.Goals as goal
 

@@ -1,6 +1,5 @@
 -- `theorem_engines::same_checksum` meets its contract: one value is promised of the two checksums.
 use mathlib.Core.Path.{sym, ◌∙◌}
-use borrow.Author.Rules.{rules}
 use borrow.Author.Tests.{eq-eqb}
 use Rattle.theorem_engines.proofs.same_checksum.Goals as goal
 

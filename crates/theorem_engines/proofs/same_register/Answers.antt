@@ -1,6 +1,5 @@
 -- `theorem_engines::same_register` meets its contract: one value is promised of the two registers.
 use mathlib.Core.Path.{sym, ◌∙◌}
-use borrow.Author.Rules.{rules}
 use borrow.Author.Tests.{eq-eqb}
 use Rattle.theorem_engines.proofs.same_register.Goals as goal
 

@@ -1,5 +1,4 @@
 -- `theorem_two_orders::two_orders` meets its contract: what the two calls leave, by the law of two segments of one meaning.
-use borrow.Author.Rules.{rules}
 use Rattle.theorem_two_orders.proofs.OneTidyForm.{one_form}
 use Rattle.theorem_two_orders.proofs.two_orders.Goals as goal
 

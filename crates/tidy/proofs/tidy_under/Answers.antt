@@ -1,7 +1,6 @@
 -- `tidy::tidy_under` meets its contract: the segment's first refusal, or its records in tidy order.
 use mathlib.Core.Path.{◌≡◌, sym, ◌∙◌}
 use native.Mathlib.Omega.{arith}
-use borrow.Author.Rules.{rules}
 use Rattle.numbers.specs.Numbers.{Bytes}
 use Rattle.answer.specs.declared.Verdict.TheVariants.{Accepted}
 use Rattle.segment.specs.Format.{v3, header_of}
@@ -18,63 +17,63 @@ returns-in-Refused c = emitted-refused _ _ _ _ (sym c.check_segment.ensures ∙ 
 
 pub of-h-requires : goal.of-h-requires
 of-h-requires c =
-    let readable : let seg = c.args.seg.now in Readable v3 seg (header_of seg) = 
-        let accepted : segment_verdict v3 c.args.pairs.now c.args.seg.now ≡ Accepted = sym c.check_segment.ensures ∙ c.in-Accepted.is in
-        under-readable v3 v3-shaped _ _ c.requires (accepted) in
+    let readable : let seg = c.args.seg.now in Readable v3 seg (header_of seg) =
+    let accepted : segment_verdict v3 c.args.pairs.now c.args.seg.now ≡ Accepted = sym c.check_segment.ensures ∙ c.in-Accepted.is in
+    under-readable v3 v3-shaped _ _ c.requires (accepted) in
     omega (arith, (readable).long)
 
 pub heading_of-t-requires : goal.heading_of-t-requires
 heading_of-t-requires c =
-    let known : Readable v3 c.args.seg.now c.of-h.result = 
-        let readable : let seg = c.args.seg.now in Readable v3 seg (header_of seg) = 
-            let accepted : segment_verdict v3 c.args.pairs.now c.args.seg.now ≡ Accepted = sym c.check_segment.ensures ∙ c.in-Accepted.is in
-            under-readable v3 v3-shaped _ _ c.requires (accepted) in
-        read _ _ _ c.of-h.ensures (readable) in
+    let known : Readable v3 c.args.seg.now c.of-h.result =
+    let readable : let seg = c.args.seg.now in Readable v3 seg (header_of seg) =
+    let accepted : segment_verdict v3 c.args.pairs.now c.args.seg.now ≡ Accepted = sym c.check_segment.ensures ∙ c.in-Accepted.is in
+    under-readable v3 v3-shaped _ _ c.requires (accepted) in
+    read _ _ _ c.of-h.ensures (readable) in
     (known).long
 
 pub overflow_add-end : goal.overflow_add-end
 overflow_add-end c =
-    let known : Readable v3 c.args.seg.now c.of-h.result = 
-        let readable : let seg = c.args.seg.now in Readable v3 seg (header_of seg) = 
-            let accepted : segment_verdict v3 c.args.pairs.now c.args.seg.now ≡ Accepted = sym c.check_segment.ensures ∙ c.in-Accepted.is in
-            under-readable v3 v3-shaped _ _ c.requires (accepted) in
-        read _ _ _ c.of-h.ensures (readable) in
+    let known : Readable v3 c.args.seg.now c.of-h.result =
+    let readable : let seg = c.args.seg.now in Readable v3 seg (header_of seg) =
+    let accepted : segment_verdict v3 c.args.pairs.now c.args.seg.now ≡ Accepted = sym c.check_segment.ensures ∙ c.in-Accepted.is in
+    under-readable v3 v3-shaped _ _ c.requires (accepted) in
+    read _ _ _ c.of-h.ensures (readable) in
     omega (arith, bloom-within _ _ _ (known))
 
 pub slice_bounds-put_tidy-count : goal.slice_bounds-put_tidy-count
 slice_bounds-put_tidy-count c =
-    let known : Readable v3 c.args.seg.now c.of-h.result = 
-        let readable : let seg = c.args.seg.now in Readable v3 seg (header_of seg) = 
-            let accepted : segment_verdict v3 c.args.pairs.now c.args.seg.now ≡ Accepted = sym c.check_segment.ensures ∙ c.in-Accepted.is in
-            under-readable v3 v3-shaped _ _ c.requires (accepted) in
-        read _ _ _ c.of-h.ensures (readable) in
+    let known : Readable v3 c.args.seg.now c.of-h.result =
+    let readable : let seg = c.args.seg.now in Readable v3 seg (header_of seg) =
+    let accepted : segment_verdict v3 c.args.pairs.now c.args.seg.now ≡ Accepted = sym c.check_segment.ensures ∙ c.in-Accepted.is in
+    under-readable v3 v3-shaped _ _ c.requires (accepted) in
+    read _ _ _ c.of-h.ensures (readable) in
     omega (arith, bloom-within _ _ _ (known))
 
 pub slice_bounds-put_tidy-start : goal.slice_bounds-put_tidy-start
 slice_bounds-put_tidy-start c =
-    let known : Readable v3 c.args.seg.now c.of-h.result = 
-        let readable : let seg = c.args.seg.now in Readable v3 seg (header_of seg) = 
-            let accepted : segment_verdict v3 c.args.pairs.now c.args.seg.now ≡ Accepted = sym c.check_segment.ensures ∙ c.in-Accepted.is in
-            under-readable v3 v3-shaped _ _ c.requires (accepted) in
-        read _ _ _ c.of-h.ensures (readable) in
+    let known : Readable v3 c.args.seg.now c.of-h.result =
+    let readable : let seg = c.args.seg.now in Readable v3 seg (header_of seg) =
+    let accepted : segment_verdict v3 c.args.pairs.now c.args.seg.now ≡ Accepted = sym c.check_segment.ensures ∙ c.in-Accepted.is in
+    under-readable v3 v3-shaped _ _ c.requires (accepted) in
+    read _ _ _ c.of-h.ensures (readable) in
     omega (arith, bloom-within _ _ _ (known))
 
 pub slice_bounds-put_tidy-end : goal.slice_bounds-put_tidy-end
 slice_bounds-put_tidy-end c =
-    let known : Readable v3 c.args.seg.now c.of-h.result = 
-        let readable : let seg = c.args.seg.now in Readable v3 seg (header_of seg) = 
-            let accepted : segment_verdict v3 c.args.pairs.now c.args.seg.now ≡ Accepted = sym c.check_segment.ensures ∙ c.in-Accepted.is in
-            under-readable v3 v3-shaped _ _ c.requires (accepted) in
-        read _ _ _ c.of-h.ensures (readable) in
+    let known : Readable v3 c.args.seg.now c.of-h.result =
+    let readable : let seg = c.args.seg.now in Readable v3 seg (header_of seg) =
+    let accepted : segment_verdict v3 c.args.pairs.now c.args.seg.now ≡ Accepted = sym c.check_segment.ensures ∙ c.in-Accepted.is in
+    under-readable v3 v3-shaped _ _ c.requires (accepted) in
+    read _ _ _ c.of-h.ensures (readable) in
     omega (arith, bloom-within _ _ _ (known))
 
 pub put_tidy-requires : goal.put_tidy-requires
 put_tidy-requires c =
-    let known : Readable v3 c.args.seg.now c.of-h.result = 
-        let readable : let seg = c.args.seg.now in Readable v3 seg (header_of seg) = 
-            let accepted : segment_verdict v3 c.args.pairs.now c.args.seg.now ≡ Accepted = sym c.check_segment.ensures ∙ c.in-Accepted.is in
-            under-readable v3 v3-shaped _ _ c.requires (accepted) in
-        read _ _ _ c.of-h.ensures (readable) in
+    let known : Readable v3 c.args.seg.now c.of-h.result =
+    let readable : let seg = c.args.seg.now in Readable v3 seg (header_of seg) =
+    let accepted : segment_verdict v3 c.args.pairs.now c.args.seg.now ≡ Accepted = sym c.check_segment.ensures ∙ c.in-Accepted.is in
+    under-readable v3 v3-shaped _ _ c.requires (accepted) in
+    read _ _ _ c.of-h.ensures (readable) in
     let bytes : Bytes c.args.seg.now = λ i. let f = c.shared_slice_known-2-1.given i in omega arith in
     record { shaped = v3-shaped; all_lines = read-lines _ _ _ (known) (bytes) _ _; n_le_record_limit = (known).laid.layout.few }
 

@@ -1,9 +1,6 @@
 -- `tidy_length::sum_records` meets its contract: k records are summed up.
-use Prim.Native.Nat.{◌-◌, ◌≤◌, ◌<◌}
-use native.Mathlib.Omega.{arith}
-use borrow.Author.Rules.{rules}
-use Rattle.check_book.proofs.Readable.{record-inside}
-use Rattle.tidy_length.proofs.Summing.{Summing, summing_start, next_small, summing-more, summing-done}
+use Prim.Native.Nat.{◌-◌}
+use Rattle.tidy_length.proofs.Summing.{Summing}
 use Rattle.tidy_length.proofs.sum_records.Given as goal
 
 abbrev pub invariant-loop-k : goal.invariant-loop-k

@@ -1,5 +1,4 @@
 -- `walk::step_from_by` meets its contract: the turn's step.
-use borrow.Author.Rules.{rules}
 use Rattle.walk_step.proofs.Stepping.{said}
 use Rattle.walk.proofs.step_from_by.Goals as goal
 

@@ -1,5 +1,4 @@
 -- `walk_step::step_at` meets its contract: check, and then the record.
-use borrow.Author.Rules.{rules}
 use native.Mathlib.Omega.{arith}
 use Rattle.segment.specs.Format.{v3, header_of}
 use Rattle.check_book.specs.Readable.{Readable}

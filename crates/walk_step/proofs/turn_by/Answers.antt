@@ -1,5 +1,4 @@
 -- `walk_step::turn_by` meets its contract: the answer's case says the place after it.
-use borrow.Author.Rules.{rules}
 use native.Mathlib.Omega.{arith}
 use Rattle.walk_step.proofs.Stepping.{few-rows, turned-row, turned-done, turned-refused}
 use Rattle.walk_step.proofs.turn_by.Goals as goal

@@ -1,6 +1,5 @@
 -- `write::write_under` meets its contract: the request's first refusal, or its items in tidy order.
 use mathlib.Core.Path.{sym, ◌∙◌}
-use borrow.Author.Rules.{rules}
 use Rattle.segment.specs.Format.{v3}
 use Rattle.segment.proofs.Shapes.{v3-shaped}
 use Rattle.put_tidy.proofs.EmittedAfter.{emitted-refused, emitted-written}

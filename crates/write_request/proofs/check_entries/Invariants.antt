@@ -1,13 +1,9 @@
 -- `write_request::check_entries` meets its contract: nothing is refused below k.
 use Prim.Native.Nat.{◌≤◌, ◌-◌}
-use mathlib.Core.Path.{◌≡◌, sym, ◌∙◌}
-use borrow.Author.Rules.{rules}
-use native.Mathlib.Omega.{arith}
+use mathlib.Core.Path.{◌≡◌}
 use Rattle.answer.specs.declared.Verdict.TheVariants.{Accepted}
 use Rattle.answer.specs.Rules.{first_over}
-use Rattle.answer.proofs.Order.{first-none}
 use Rattle.segment.specs.Write.{entry_verdict}
-use Rattle.write_request.proofs.RequestOrder.{entry-refused, entry-passed, entries-passed}
 use Rattle.write_request.proofs.check_entries.Given as goal
 
 abbrev pub invariant-loop-k : goal.invariant-loop-k

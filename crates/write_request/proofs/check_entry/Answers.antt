@@ -1,7 +1,5 @@
 -- `write_request::check_entry` meets its contract: the first rule that is broken.
 use mathlib.Core.Path.{sym, ◌∙◌}
-use borrow.Author.Rules.{rules}
-use Rattle.lists.proofs.Tests.{was-true, was-false}
 use Rattle.write_request.proofs.RequestOrder.{extents-held, entry-five, marks-stop, lists-stop, digest-stops, places-stop, total-stops, all-kept}
 use Rattle.write_request.proofs.check_entry.Goals as goal
 

@@ -1,6 +1,5 @@
 -- `write_request::check_request` meets its contract: the count, the bloom bytes, the entries, and then their keys.
 use mathlib.Core.Path.{sym, ◌∙◌}
-use borrow.Author.Rules.{rules}
 use Rattle.key.proofs.Duplicates.{keys-book}
 use Rattle.key_ascending.proofs.Climbing.{none-twice}
 use Rattle.write_book.proofs.RequestBook.{entries-book, entries-stand}

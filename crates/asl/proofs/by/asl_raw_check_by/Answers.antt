@@ -1,5 +1,4 @@
 -- `asl::by::asl_raw_check_by` meets its contract: the table, and what check says under it.
-use borrow.Author.Rules.{rules}
 use Rattle.c_table.proofs.Taking.{Copied, copied}
 use Rattle.asl.proofs.Called.{check-accepted, check-refused, check-place}
 use Rattle.asl.proofs.by.asl_raw_check_by.Goals as goal

@@ -1,5 +1,4 @@
 -- `asl::by::asl_raw_look_up_by` meets its contract: the table, and what look up says under it.
-use borrow.Author.Rules.{rules}
 use Rattle.c_table.proofs.Taking.{Copied, copied}
 use Rattle.asl.proofs.Called.{look-up-sayable, looked-up}
 use Rattle.asl.proofs.by.asl_raw_look_up_by.Goals as goal

@@ -1,7 +1,6 @@
 -- `asl::by::asl_raw_step_by` meets its contract: the table, and what a step of the walk says under it.
 use native.Mathlib.Omega.{arith}
 use lib.Dec.{lit<}
-use borrow.Author.Rules.{rules}
 use Rattle.c_table.proofs.Taking.{Copied, copied}
 use Rattle.asl.proofs.Called.{step-place, step_row, step-done, step-refused}
 use Rattle.asl.proofs.by.asl_raw_step_by.Goals as goal

@@ -1,5 +1,4 @@
 -- `asl::by::asl_raw_tidy_by` meets its contract: the table, and what tidy says under it.
-use borrow.Author.Rules.{rules}
 use Rattle.c_table.proofs.Taking.{Copied, copied}
 use Rattle.asl.proofs.Called.{tidy-small, tidied}
 use Rattle.asl.proofs.by.asl_raw_tidy_by.Goals as goal

@@ -1,5 +1,4 @@
 -- `asl::by::asl_raw_tidy_length_by` meets its contract: the table, and how long the tidy form is under it.
-use borrow.Author.Rules.{rules}
 use Rattle.c_table.proofs.Taking.{Copied, copied}
 use Rattle.asl.proofs.Called.{length-small, length-said}
 use Rattle.asl.proofs.by.asl_raw_tidy_length_by.Goals as goal

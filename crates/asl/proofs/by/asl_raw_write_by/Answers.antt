@@ -1,5 +1,4 @@
 -- `asl::by::asl_raw_write_by` meets its contract: the table, and what write says under it.
-use borrow.Author.Rules.{rules}
 use Rattle.c_table.proofs.Taking.{Copied, copied}
 use Rattle.asl.proofs.Called.{write-small, written}
 use Rattle.asl.proofs.by.asl_raw_write_by.Goals as goal

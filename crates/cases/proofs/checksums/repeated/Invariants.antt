@@ -1,6 +1,5 @@
 -- `cases::checksums::repeated` is safe and ends: it counts its turns.
 use Prim.Native.Nat.{◌≤◌, ◌-◌}
-use borrow.Author.Rules.{rules}
 use Rattle.cases.proofs.checksums.repeated.Given as goal
 
 abbrev pub invariant-loop-k : goal.invariant-loop-k

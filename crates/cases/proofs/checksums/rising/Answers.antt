@@ -1,7 +1,6 @@
 -- `cases::checksums::rising` meets its contract: each store keeps the block's 1024 bytes.
-use mathlib.Core.Path.{◌≡◌}
-use Prim.Native.Nat.{◌≤◌, ◌-◌}
-use lib.ListN.{length, length-set}
+use Prim.Native.Nat.{◌-◌}
+use lib.ListN.{length-set}
 use native.Mathlib.Omega.{arith}
 use borrow.Author.Rules.{rules}
 use Rattle.cases.proofs.checksums.rising.Goals as goal

@@ -1,9 +1,7 @@
 -- `cases::checksums::rising` meets its contract: each store keeps the block's 1024 bytes.
 use mathlib.Core.Path.{◌≡◌}
 use Prim.Native.Nat.{◌≤◌, ◌-◌}
-use lib.ListN.{length, length-set}
-use native.Mathlib.Omega.{arith}
-use borrow.Author.Rules.{rules}
+use lib.ListN.{length}
 use Rattle.cases.proofs.checksums.rising.Given as goal
 
 abbrev pub invariant-loop-i : goal.invariant-loop-i

@@ -1,6 +1,5 @@
 -- `cases::counts::most` lends lists with room for 65,536 entries.
 use Prim.Native.Nat.{ℕ}
-use borrow.Author.Rules.{rules}
 use lib.ListN.{length-replicate}
 use Rattle.cases.proofs.counts.most.Goals as goal
 

@@ -1,7 +1,6 @@
 -- `cases::places::check_first` takes a part that is there.
 use mathlib.Core.Path.{sym}
 use native.Mathlib.Omega.{arith}
-use borrow.Author.Rules.{rules}
 use lib.Seq.{length-take-le}
 use Rattle.cases.proofs.places.check_first.Goals as goal
 

@@ -1,7 +1,6 @@
 -- `cases::places::seal` keeps to a file that has a footer.
 use mathlib.Core.Path.{sym}
 use native.Mathlib.Omega.{arith}
-use borrow.Author.Rules.{rules}
 use lib.Seq.{length-take-le}
 use Rattle.cases.proofs.places.seal.Goals as goal
 

@@ -1,5 +1,4 @@
 -- `field_record::record::total_length` meets its contract: the total at its place, by whether it is wide.
-use borrow.Author.Rules.{rules}
 use Rattle.field_record.proofs.Totals.{wide-inside, narrow-inside, wide-total, narrow-total}
 use Rattle.field_record.proofs.record.total_length.Goals as goal
 

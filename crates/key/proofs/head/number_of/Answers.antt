@@ -1,7 +1,6 @@
 -- `key::head::number_of` meets its contract: the head's number, then the digest's bytes.
 use Prim.Native.Nat.{◌-◌}
 use native.Mathlib.Omega.{arith}
-use borrow.Author.Rules.{rules}
 use Rattle.key.proofs.HeadNumbers.{number-first, number-byte, number-ended}
 use Rattle.key.proofs.head.number_of.Goals as goal
 

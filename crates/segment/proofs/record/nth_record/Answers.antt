@@ -1,6 +1,5 @@
 -- `segment::record::nth_record` meets its contract: the record that begins there.
 use mathlib.Core.Path.{ap, ◌∙◌}
-use borrow.Author.Rules.{rules}
 use Rattle.segment.specs.Format.{record_of}
 use Rattle.segment.proofs.record.nth_record.Goals as goal
 

@@ -1,5 +1,4 @@
 -- `write_entry::reach::lists_kept` meets its contract: the digest's reach, and then that of the extents.
-use borrow.Author.Rules.{rules}
 use Rattle.write_entry.proofs.EntryRows.{digest-past, extents-told}
 use Rattle.write_entry.proofs.reach.lists_kept.Goals as goal
 

@@ -1,5 +1,4 @@
 -- `write_entry::total::extent_fits` meets its contract: a row for each return.
-use borrow.Author.Rules.{rules}
 use Rattle.write_entry.proofs.Adding.{fits-rows}
 use Rattle.write_entry.proofs.total.extent_fits.Goals as goal
 

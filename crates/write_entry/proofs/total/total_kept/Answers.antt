@@ -2,9 +2,8 @@
 use mathlib.Core.Path.{ap}
 use mathlib.Core.Bool.{not}
 use Prim.Native.Nat.{◌-◌}
-use borrow.Author.Rules.{rules}
 use native.Mathlib.Omega.{arith}
-use Rattle.write_entry.proofs.Adding.{Adding, add_start, size_fits, add-more, total-past, total-told}
+use Rattle.write_entry.proofs.Adding.{add_start, size_fits, add-more, total-past, total-told}
 use Rattle.write_entry.proofs.total.total_kept.Goals as goal
 
 pub loop-i-init : goal.loop-i-init

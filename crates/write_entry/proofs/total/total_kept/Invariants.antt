@@ -1,8 +1,6 @@
 -- `write_entry::total::total_kept` meets its contract: what is left of the extents decides.
 use Prim.Native.Nat.{◌-◌}
-use borrow.Author.Rules.{rules}
-use native.Mathlib.Omega.{arith}
-use Rattle.write_entry.proofs.Adding.{Adding, add_start, size_fits, add-more, total-past, total-told}
+use Rattle.write_entry.proofs.Adding.{Adding}
 use Rattle.write_entry.proofs.total.total_kept.Given as goal
 
 abbrev pub invariant-loop-i : goal.invariant-loop-i
