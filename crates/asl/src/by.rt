@@ -1,4 +1,4 @@
-// The entry points for C, as the library exports them; include/asl.h declares them, and wraps each so that lists are counted in items. Each
+// What the entry points for C do; `asl_c` exports each, and include/asl.h declares it and wraps it, so that lists are counted in items. Each
 // is total by its own checks, on numbers and slices, and returns one number: 0 or a refusal's number in the lowest byte, and from
 // the third byte on a value, or the refusal's place. Where it refuses it changes nothing. A table is lent as bytes, eight to a number.
 // The first number asks for an engine of the checksum (`checksum::engine_of`), and makes no difference to the answer.

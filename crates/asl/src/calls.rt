@@ -1,4 +1,4 @@
-// The entry points for C, for a caller who does not choose an engine of the checksum: each is that of `by` with the fast one.
+// What the entry points for C do for a caller who does not choose an engine of the checksum: each is that of `by` with the fast one.
 ghost use Rattle.std.specs.Prelude.{◌≡◌};
 ghost use Rattle.segment.specs.Keys.{key_from};
 ghost use Rattle.segment.specs.Check.{check_of};

@@ -1,5 +1,5 @@
 // The library. Its interface for Rattle, gathered here: check, look up, write, tidy and its length, the walk, the checksum, and what they take and
-// answer; and the entry points for C, in `calls`, `by` and `sum`. A service is asked by an engine of the checksum (`.._by`), or by the fast one,
+// answer; and what the entry points for C do, in `calls`, `by` and `sum`. A service is asked by an engine of the checksum (`.._by`), or by the fast one,
 // which is for a caller who does not choose.
 #![tactic(auto)]
 

@@ -1,4 +1,4 @@
-// The checksum for C, by either engine, whole and in parts. It is a number and no answer: nothing can be refused.
+// The checksum as C asks for it, by either engine, whole and in parts. It is a number and no answer: nothing can be refused.
 ghost use Rattle.std.specs.Prelude.{◌≡◌};
 ghost use Rattle.crc64.specs.Crc.{crc};
 ghost use Rattle.checksum.specs.Parts.{crc_on};

@@ -26,7 +26,7 @@ use offset::FileOffset;
 use segment::record::Record;
 
 // Look up's answer in numbers.
-#[derive(Drop)]
+#[derive(Clone, Copy)]
 pub struct Reply {
     pub number: u64,
     pub place: u64,

@@ -1,1 +1,2 @@
 pub mod TableTest
+pub mod TableRule

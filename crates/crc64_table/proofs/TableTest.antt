@@ -1,37 +1,28 @@
--- The tables' rule as one test over all their numbers, and the law that carries it to each.
+-- The tables' rule as one test over all their numbers; TableRule has the law that carries it to each.
 --   tested    how many numbers are tested: all
 --   shifted   a number after eight steps, by the first table: its low byte's number, and what is left of it above that byte
 --   ruled     the tables as the rule gives them: the bytes after eight steps, and then each number but those of the last
 --             table after eight steps, which stands 256 places on
 --   right     the test: the tables are what the rule gives
---   holds     then each number is the byte of its place after as many steps as its table has
 -- Assumes nothing.
-use mathlib.Core.Path.{◌≡◌, sym, ap, ◌∙◌}
-use mathlib.Core.Bool.{Bool, true}
+use mathlib.Core.Bool.{Bool}
 use mathlib.Core.List.{List, ◌++◌, map}
-use Prim.Native.Nat.{ℕ, zero, suc, ◌+◌, ◌-◌, ◌*◌, ◌/◌, ◌%◌, ◌<◌}
-use native.Mathlib.Nat.{zero-add, mod-lt}
-use native.Mathlib.Omega.{arith}
+use Prim.Native.Nat.{ℕ, ◌-◌, ◌/◌, ◌%◌}
 use lib.Bits.{bit_xor}
-use lib.ListN.{get_or, take, get_or-append, get_or-map}
-use lib.Seq.{get_or-take, get_or-append-add}
+use lib.ListN.{get_or, take}
 use Rattle.lists.specs.Lists.{eq_list, count_from}
-use Rattle.lists.proofs.Equal.{eq_list-iff}
-use Rattle.lists.proofs.Counted.{counted-long, counted-at}
-use Rattle.crc64.specs.Crc.{step, steps}
-use Rattle.crc64_laws.proofs.StepLaws.{steps-add, cut}
-use Rattle.crc64_table.specs.Tables.{Tables}
+use Rattle.crc64.specs.Crc.{steps}
 
-abbrev tested : ℕ
+abbrev pub tested : ℕ
 tested = 2048
 
 unfoldable pub shifted : List ℕ → ℕ → ℕ
 shifted t x = bit_xor (get_or t (x % 256) 0) (x / 256)
 
-abbrev bytes : List ℕ
+abbrev pub bytes : List ℕ
 bytes = map (steps 8) (count_from 0 256)
 
-abbrev later : List ℕ → List ℕ
+abbrev pub later : List ℕ → List ℕ
 later t = map (shifted t) (take (tested - 256) t)
 
 unfoldable pub ruled : List ℕ → List ℕ
@@ -39,36 +30,3 @@ ruled t = bytes ++ later t
 
 unfoldable pub right : List ℕ → Bool
 right t = eq_list (take tested t) (ruled t)
-
-module _ (t : List ℕ) (same : take tested t ≡ bytes ++ later t) where
-  there : (i : ℕ) → i < tested → get_or t i 0 ≡ get_or (bytes ++ later t) i 0
-  there i h = sym (get_or-take tested t i 0 h) ∙ ap (λ (xs : List ℕ). get_or xs i 0) same
-
-  low : (b : ℕ) → b < 256 → get_or t b 0 ≡ steps 8 b
-  low b h =
-      there b (omega arith) ∙ get_or-append bytes (later t) 0 b (rw (counted-long (steps 8) 0 256) h)
-      ∙ counted-at (steps 8) 0 256 b 0 h ∙ ap (steps 8) (zero-add b)
-
-  eight : (x : ℕ) → shifted t x ≡ steps 8 x
-  unfolding shifted steps
-  eight x = ap (λ (y : ℕ). bit_xor y (x / 256)) (low (x % 256) (mod-lt x (omega arith))) ∙ sym (cut 8 0 x)
-
-  next : (i : ℕ) → i < tested - 256 → get_or t (256 + i) 0 ≡ steps 8 (get_or t i 0)
-  unfolding step steps
-  next i h =
-      there (256 + i) (omega arith) ∙ ap (λ (m : ℕ). get_or (bytes ++ later t) (m + i) 0) (sym (counted-long (steps 8) 0 256))
-      ∙ get_or-append-add bytes (later t) i 0 ∙ ap (get_or (later t) i) (sym (eight 0))
-      ∙ get_or-map (shifted t) (take (tested - 256) t) i 0 ∙ eight (get_or (take (tested - 256) t) i 0)
-      ∙ ap (steps 8) (get_or-take (tested - 256) t i 0 h)
-
-  at : (k b : ℕ) → k < 8 → b < 256 → get_or t (k * 256 + b) 0 ≡ steps (8 * k + 8) b
-  at zero b hk hb = ap (λ (i : ℕ). get_or t i 0) (zero-add b) ∙ low b hb
-  at (suc k) b hk hb =
-      let i : suc k * 256 + b ≡ 256 + (k * 256 + b) = omega arith in
-      let n : 8 + (8 * k + 8) ≡ 8 * suc k + 8 = omega arith in
-      ap (λ (i : ℕ). get_or t i 0) i ∙ next (k * 256 + b) (omega arith) ∙ ap (steps 8) (at k b (omega arith) hb)
-      ∙ sym (steps-add 8 (8 * k + 8) b) ∙ ap (λ (m : ℕ). steps m b) n
-
-pub holds : (t : List ℕ) → right t ≡ true → Tables t
-unfolding right ruled
-holds t p = record { entry = at t ((eq_list-iff (take tested t) (bytes ++ later t)).0 p) }

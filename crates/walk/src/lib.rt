@@ -9,7 +9,7 @@ use checksum::Engine;
 use segment::step::Step;
 
 // A walk remembers only the segment and its place in it, the number of the record that comes next.
-#[derive(Drop)]
+#[derive(Clone, Copy)]
 pub struct Walker<'a> {
     pub segment: &'a [u8],
     pub at: usize,

@@ -2,7 +2,8 @@
 use mathlib.Core.Path.{refl}
 use Rattle.lists.specs.Lists.{eq_list, count_from}
 use Rattle.crc64.specs.Crc.{step, steps}
-use Rattle.crc64_table.proofs.TableTest.{shifted, ruled, right, holds}
+use Rattle.crc64_table.proofs.TableTest.{shifted, ruled, right}
+use Rattle.crc64_table.proofs.TableRule.{holds}
 use Rattle.crc64_table.proofs.tables.Goals as goal
 
 pub returns : goal.returns
