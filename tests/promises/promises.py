@@ -40,7 +40,7 @@ EDITS = ("Edits", "Edit or test", "Wrong promises")
 
 DEFINES = {
     ".antt": [rf"^\s*(?:(?:pub|abbrev|unfoldable) +)*({WORD})\s*:\s", rf"^\s*(?:pub +)?(?:record|data|ruleset) +({WORD})"],
-    ".rt": [r"\b(?:fn|struct|enum|const)\s+(\w+)", r"^\s+([A-Z]\w*)(?:\(.*\))?(?: \{)?,?$", r"^\s+(?:pub\s+)?(\w+):\s"],
+    ".rt": [r"\b(?:fn|struct|enum|const|trait)\s+(\w+)", r"^\s+([A-Z]\w*)(?:\(.*\))?(?: \{)?,?$", r"^\s+(?:pub\s+)?(\w+):\s"],
     ".c": [r"^\w[\w\s*]*\b(\w+)\("],
 }
 KINDS = {"/specs/": "definition", "/proofs/": "theorem", "/src/": "function", "tests/c/": "test function"}
@@ -120,8 +120,8 @@ class Repository:
         text = name.text
         if text in TEXT:
             return "text", None
-        if re.fullmatch(rf"\w+::{WORD}(\(.*\))?", text):
-            return "function of a crate", self.function(*re.match(r"(\w+)::(\w+)", text).groups())
+        if re.fullmatch(rf"(?:\w+::)?\w+::{WORD}(\(.*\))?", text):
+            return "function of a crate", self.function(*re.match(r"(?:\w+::)?(\w+)::(\w+)", text).groups())
         if re.fullmatch(r"\d\d-[\w-]*(\.\.)?", text):
             return "fixture", self.fixture(text, name.after)
         if re.fullmatch(r"-[\w-]+", text):
@@ -144,7 +144,9 @@ class Repository:
         text = "\n".join((root / path).read_text() for path in self.tree
                          if re.fullmatch(rf"crates/{owner if owner in self.crates else '.*'}/src/.*\.rt", path))
         if owner not in self.crates:
-            text = "".join(re.findall(rf"^impl {owner} \{{$.*?^\}}$", text, re.MULTILINE | re.DOTALL))
+            # its own methods, or those of a trait that it has
+            heads = rf"^impl(?:<[^>]*>)? (?:\w+(?:<[^>]*>)? for )?{owner}(?:<[^>]*>)? \{{$.*?^\}}$"
+            text = "".join(re.findall(heads, text, re.MULTILINE | re.DOTALL))
         return None if re.search(rf"\b(fn|const) {name}\b", text) else f"no fn {name} in {owner}"
 
     def fixture(self, text, after):

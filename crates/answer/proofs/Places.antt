@@ -5,16 +5,15 @@ use Prim.Native.Nat.{ℕ, zero, suc, ◌<◌}
 use mathlib.Core.Path.{◌≡◌, refl}
 use mathlib.Core.Bool.{Bool, true, false, cond}
 use native.Mathlib.Omega.{arith}
+use Rattle.std.specs.Prelude.{Err}
 use Rattle.answer.specs.declared.Rule.{Rule}
 use Rattle.answer.specs.declared.Refusal.{Refusal}
-use Rattle.answer.specs.declared.Verdict.{Verdict}
-use Rattle.answer.specs.declared.Verdict.TheVariants.{Accepted, Refused}
-use Rattle.answer.specs.Rules.{must, ◌then◌, first_over}
+use Rattle.answer.specs.Rules.{must, ◌then◌, first_over, Verdict, accepted}
 use Rattle.answer.specs.Answers.{refusal}
 
 pub data Placed (b : ℕ) : Verdict → Type 0 where
-  accepts : Placed b Accepted
-  refuses : {q : Refusal} → q.1 < b → Placed b (Refused q)
+  accepts : Placed b accepted
+  refuses : {q : Refusal} → q.1 < b → Placed b (Err q)
 
 pub placed-must : {b : ℕ} (t : Bool) (rule : Rule) (p : ℕ) → p < b → Placed b (must t (refusal rule p))
 placed-must true rule p l = accepts
@@ -25,7 +24,7 @@ placed-then accepts o = o
 placed-then (refuses l) o = refuses l
 
 -- of a rule that is tried where those before it are kept
-pub placed-after : {b : ℕ} {v : Verdict} (w : Verdict) → Placed b v → (v ≡ Accepted → Placed b w) → Placed b (v then w)
+pub placed-after : {b : ℕ} {v : Verdict} (w : Verdict) → Placed b v → (v ≡ accepted → Placed b w) → Placed b (v then w)
 placed-after w accepts o = o refl
 placed-after w (refuses l) o = refuses l
 
@@ -41,6 +40,6 @@ placed_first (suc n) f o = placed-then (placed_first n f (λ k l. o k (omega ari
 pub ruleset placed-rows = (placed-must, placed-then, placed-cond)
 
 -- the place of such a refusal
-pub placed_below : {b : ℕ} {v : Verdict} → Placed b v → (r : Refusal) → v ≡ Refused r → r.1 < b
+pub placed_below : {b : ℕ} {v : Verdict} → Placed b v → (r : Refusal) → v ≡ Err r → r.1 < b
 placed_below accepts r e = let z : ◌≡◌ {A = ℕ} 0 1 = cc in absurd (omega arith)
 placed_below {b} (refuses {q} l) r e = let f : q ≡ r = cc in rw f at l

@@ -10,6 +10,7 @@ use native.Mathlib.Omega.{arith}
 use borrow.Author.Tests.{ne_eqb, eqb-true, leb-true}
 use lib.Dec.{eqb, leb}
 use lib.ListN.{length, get_or}
+use Rattle.std.specs.Prelude.{Result, None, Some, Ok, Err}
 use Rattle.lists.proofs.Tests.{by-test, and-iff, or-either}
 use Rattle.answer.specs.declared.Refusal.{Refusal}
 use Rattle.answer.specs.declared.Rule.{Rule}
@@ -36,17 +37,11 @@ use Rattle.answer.specs.declared.Rule.TheVariants.{
   Large,
   Key,
 }
-use Rattle.answer.specs.declared.Verdict.{Verdict}
-use Rattle.answer.specs.declared.Verdict.TheVariants.{Accepted, Refused}
-use Rattle.answer.specs.declared.Source.{Source}
-use Rattle.answer.specs.declared.Source.TheVariants.{None, Domain}
 use Rattle.answer.specs.declared.Found.{Found}
-use Rattle.answer.specs.declared.Found.TheVariants.{Absent, Gone, Present, Refused as FoundRefused}
-use Rattle.answer.specs.declared.Written.{Written}
-use Rattle.answer.specs.declared.Written.TheVariants.{Done, Refused as WrittenRefused}
-use Rattle.answer.specs.Rules.{some_below}
+use Rattle.answer.specs.declared.Found.TheVariants.{Absent, Gone, Present}
+use Rattle.answer.specs.Rules.{some_below, Verdict}
 use Rattle.answer.proofs.Order.{some-found}
-use Rattle.answer.specs.Answers.{rule_number, in_table, refusal, number_of, place_of, Answer, refused, check_answer, found_answer, written_answer}
+use Rattle.answer.specs.Answers.{rule_number, in_table, refusal, number_of, place_of, Answer, refused, check_answer, found_answer, written_answer, Source, Written}
 
 -- the rules, in no order; and the first of some rules that has a number
 rules : List Rule
@@ -140,24 +135,24 @@ pub not-answered : (r : Refusal) → eqb (number_of r) 0 ≡ false
 not-answered r = ne_eqb (number_of r) 0 (λ e. omega (arith, table-small (number_of r) (in-table r.0)))
 
 -- a service's answer from its numbers: where the number is 0, what the values make of it
-unfoldable pub taken : {A : Type 0} → (Refusal → A) → (List ℕ → A) → Answer → A
-taken refuse make a = cond (eqb a.number 0) (make a.values) (refuse (refusal_of a.number a.place))
+unfoldable pub taken : {A : Type 0} → (List ℕ → A) → Answer → Result A Refusal
+taken make a = cond (eqb a.number 0) (Ok (make a.values)) (Err (refusal_of a.number a.place))
 
-pub taken_refused : {A : Type 0} (refuse : Refusal → A) (make : List ℕ → A) (r : Refusal) → taken refuse make (refused r) ≡ refuse r
+pub taken_refused : {A : Type 0} (make : List ℕ → A) (r : Refusal) → taken make (refused r) ≡ Err r
 unfolding taken
-taken_refused refuse make r = rw (not-answered r) (ap refuse (refusal-back r))
+taken_refused make r = rw (not-answered r) (ap Err (refusal-back r))
 
-check-back : (v : Verdict) → taken Refused (λ vs. Accepted) (check_answer v) ≡ v
+check-back : (v : Verdict) → taken (λ vs. _) (check_answer v) ≡ v
 unfolding taken
-check-back Accepted = refl
-check-back (Refused r) = taken_refused Refused (λ vs. Accepted) r
+check-back (Ok _) = refl
+check-back (Err r) = taken_refused (λ vs. _) r
 
 pub check-settled : (v w : Verdict) → check_answer v ≡ check_answer w → v ≡ w
-check-settled v w e = sym (check-back v) ∙ ap (taken Refused (λ vs. Accepted)) e ∙ check-back w
+check-settled v w e = sym (check-back v) ∙ ap (taken (λ vs. _)) e ∙ check-back w
 
 source_from : ℕ → ℕ → Source
 source_from zero d = None
-source_from (suc i) d = Domain d
+source_from (suc i) d = Some d
 
 -- the answers of look up by the count of their values: none, four or seven
 found_from : List ℕ → Found
@@ -169,25 +164,25 @@ found_from vs =
     (Absent ∷ Absent ∷ Absent ∷ Absent ∷ Gone v d s ∷ Absent ∷ Absent ∷ Present v d s (get_or vs 4 0) (record { 0 = get_or vs 5 0 }) (get_or vs 6 0) ∷ [])
     (length vs) Absent
 
-found_back : (f : Found) → taken FoundRefused found_from (found_answer f) ≡ f
+found_back : (f : Result Found Refusal) → taken found_from (found_answer f) ≡ f
 unfolding taken found_from source_from
-found_back Absent = refl
-found_back (Gone v d None) = refl
-found_back (Gone v d (Domain s)) = refl
-found_back (Present v d None t a n) = refl
-found_back (Present v d (Domain s) t a n) = refl
-found_back (FoundRefused r) = taken_refused FoundRefused found_from r
+found_back (Ok Absent) = refl
+found_back (Ok (Gone v d None)) = refl
+found_back (Ok (Gone v d (Some s))) = refl
+found_back (Ok (Present v d None t a n)) = refl
+found_back (Ok (Present v d (Some s) t a n)) = refl
+found_back (Err r) = taken_refused found_from r
 
-pub found-settled : (f g : Found) → found_answer f ≡ found_answer g → f ≡ g
-found-settled f g e = sym (found_back f) ∙ ap (taken FoundRefused found_from) e ∙ found_back g
+pub found-settled : (f g : Result Found Refusal) → found_answer f ≡ found_answer g → f ≡ g
+found-settled f g e = sym (found_back f) ∙ ap (taken found_from) e ∙ found_back g
 
-written_from : List ℕ → Written
-written_from vs = Done (get_or vs 0 0)
+written_from : List ℕ → ℕ
+written_from vs = get_or vs 0 0
 
-written_back : (w : Written) → taken WrittenRefused written_from (written_answer w) ≡ w
+written_back : (w : Written) → taken written_from (written_answer w) ≡ w
 unfolding taken written_from
-written_back (Done n) = refl
-written_back (WrittenRefused r) = taken_refused WrittenRefused written_from r
+written_back (Ok n) = refl
+written_back (Err r) = taken_refused written_from r
 
 pub written-settled : (v w : Written) → written_answer v ≡ written_answer w → v ≡ w
-written-settled v w e = sym (written_back v) ∙ ap (taken WrittenRefused written_from) e ∙ written_back w
+written-settled v w e = sym (written_back v) ∙ ap (taken written_from) e ∙ written_back w

@@ -4,9 +4,12 @@
 --   refusal                a rule that is broken at a place
 --   number_of, place_of      of a refusal
 --   Answer                 what a call gives back: 0 or the refusal's number, its place, and the values of an answer
+--   Source                 where a record came from
+--   Written                what write and tidy answer: the result's length, or a refusal
 --   check_answer, found_answer, written_answer   of each case of what check, look up, and write and tidy answer
 -- Assumes nothing.
-use Rattle.std.specs.Prelude.{ℕ, Bool, ◌&&◌, ◌||◌, List, [], ◌∷◌, ◌++◌, leb}
+use Rattle.std.specs.Prelude.{ℕ, Bool, ◌&&◌, ◌||◌, List, [], ◌∷◌, ◌++◌, leb, Option, None, Some, Result, Ok, Err}
+use Rattle.answer.specs.Rules.{Verdict}
 use Rattle.answer.specs.declared.Refusal.{Refusal}
 use Rattle.answer.specs.declared.Rule.{Rule}
 use Rattle.answer.specs.declared.Rule.TheVariants.{
@@ -32,14 +35,8 @@ use Rattle.answer.specs.declared.Rule.TheVariants.{
   Large,
   Key,
 }
-use Rattle.answer.specs.declared.Verdict.{Verdict}
-use Rattle.answer.specs.declared.Verdict.TheVariants.{Accepted, Refused}
-use Rattle.answer.specs.declared.Source.{Source}
-use Rattle.answer.specs.declared.Source.TheVariants.{None, Domain}
 use Rattle.answer.specs.declared.Found.{Found}
-use Rattle.answer.specs.declared.Found.TheVariants.{Absent, Gone, Present, Refused as FoundRefused}
-use Rattle.answer.specs.declared.Written.{Written}
-use Rattle.answer.specs.declared.Written.TheVariants.{Done, Refused as WrittenRefused}
+use Rattle.answer.specs.declared.Found.TheVariants.{Absent, Gone, Present}
 
 abbrev pub rule_number : Rule → ℕ
 rule_number Size = 1
@@ -91,23 +88,29 @@ abbrev pub refused : Refusal → Answer
 refused r = record { number = number_of r; place = place_of r; values = [] }
 
 abbrev pub check_answer : Verdict → Answer
-check_answer Accepted = answered []
-check_answer (Refused r) = refused r
+check_answer (Ok _) = answered []
+check_answer (Err r) = refused r
 
--- whether a record was imported, and from which domain
+-- the domain that a record was imported from, if it was
+abbrev pub Source : Type 0
+Source = Option ℕ
+
 abbrev pub source_values : Source → List ℕ
 source_values None = 0 ∷ 0 ∷ []
-source_values (Domain d) = 1 ∷ d ∷ []
+source_values (Some d) = 1 ∷ d ∷ []
 
 -- absent; gone, with visibility, domain and source; or present, with these, the total length, and where its extents lie
-abbrev pub found_answer : Found → Answer
-found_answer Absent = answered []
-found_answer (Gone visibility domain source) = answered (visibility ∷ domain ∷ source_values source)
-found_answer (Present visibility domain source total start count) =
+abbrev pub found_answer : Result Found Refusal → Answer
+found_answer (Ok Absent) = answered []
+found_answer (Ok (Gone visibility domain source)) = answered (visibility ∷ domain ∷ source_values source)
+found_answer (Ok (Present visibility domain source total start count)) =
     answered (visibility ∷ domain ∷ source_values source ++ (total ∷ start.0 ∷ count ∷ []))
-found_answer (FoundRefused r) = refused r
+found_answer (Err r) = refused r
 
 -- the result's length
+abbrev pub Written : Type 0
+Written = Result ℕ Refusal
+
 abbrev pub written_answer : Written → Answer
-written_answer (Done n) = answered (n ∷ [])
-written_answer (WrittenRefused r) = refused r
+written_answer (Ok n) = answered (n ∷ [])
+written_answer (Err r) = refused r

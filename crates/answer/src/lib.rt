@@ -1,10 +1,11 @@
-// The refusals, and what check, look up, write and tidy answer. `answer_number::number` gives the number of a refusal's rule.
+// The refusals, and what look up answers. A service answers a `Result`: check nothing more than that a segment is accepted, write and
+// tidy the result's length, and each of them a `Refusal` otherwise. `answer_number::number` gives the number of a refusal's rule.
 #![tactic(auto)]
 
 use offset::FileOffset;
 
 // The rules that are refused by, each with a number of its own.
-#[derive(Clone, Copy)]
+#[derive(Clone, Copy, Debug, PartialEq, Eq)]
 pub enum Rule {
     Size,
     Magic,
@@ -30,46 +31,25 @@ pub enum Rule {
 }
 
 // The rule that is broken, and the place.
-#[derive(Clone, Copy)]
+#[derive(Clone, Copy, Debug, PartialEq, Eq)]
 pub struct Refusal(pub Rule, pub u64);
 
-// What check answers.
-#[derive(Clone, Copy)]
-pub enum Verdict {
-    Accepted,
-    Refused(Refusal),
-}
-
-// Where a record came from: nowhere else, or the domain that it was imported from.
-#[derive(Clone, Copy)]
-pub enum Source {
-    None,
-    Domain(u32),
-}
-
-// What look up answers. The extents of a present record are the `count` extents that begin at byte `start` of the segment.
-#[derive(Clone, Copy)]
+// What look up answers of an accepted segment. The source is the domain that the record was imported from, if it was. The extents of a
+// present record are the `count` extents that begin at byte `start` of the segment.
+#[derive(Clone, Copy, Debug, PartialEq, Eq)]
 pub enum Found {
     Absent,
     Gone {
         visibility: u8,
         domain: u32,
-        source: Source,
+        source: Option<u32>,
     },
     Present {
         visibility: u8,
         domain: u32,
-        source: Source,
+        source: Option<u32>,
         total: u64,
         start: FileOffset,
         count: u32,
     },
-    Refused(Refusal),
-}
-
-// What write and tidy answer: the result's length, or a refusal.
-#[derive(Clone, Copy)]
-pub enum Written {
-    Done(u64),
-    Refused(Refusal),
 }

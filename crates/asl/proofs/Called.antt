@@ -4,24 +4,17 @@ use Prim.Native.Nat.{ℕ, ◌<◌}
 use mathlib.Core.Path.{◌≡◌, sym, ap, ◌∙◌}
 use mathlib.Core.Bool.{false}
 use mathlib.Core.List.{List}
-use lib.ListN.{take}
+use Rattle.std.specs.Prelude.{Err, None, Ok, Some}
+use Rattle.answer.specs.Rules.{Verdict, accepted}
 use Rattle.answer.specs.declared.Refusal.{Refusal}
 use Rattle.answer.specs.declared.Rule.TheVariants.{Table as TableWrong}
-use Rattle.answer.specs.declared.Verdict.{Verdict}
-use Rattle.answer.specs.declared.Verdict.TheVariants.{Accepted, Refused}
-use Rattle.answer.specs.declared.Found.{Found}
-use Rattle.answer.specs.declared.Found.TheVariants.{Refused as NotFound}
-use Rattle.answer.specs.declared.Written.{Written}
-use Rattle.answer.specs.declared.Written.TheVariants.{Refused as NotWritten}
-use Rattle.answer.specs.Answers.{Answer, refusal, check_answer, found_answer, written_answer}
+use Rattle.answer.specs.Answers.{Answer, refusal, check_answer, found_answer, written_answer, Written}
 use Rattle.answer.proofs.Settled.{check-settled, found-settled}
 use Rattle.segment.specs.declared.record.Record.{Record}
-use Rattle.segment.specs.declared.step.Step.{Step}
-use Rattle.segment.specs.declared.step.Step.TheVariants.{Row, Done as NoRow, Refused as NoStep}
 use Rattle.segment.specs.Keys.{Key}
 use Rattle.segment.specs.Check.{checked, check_of}
-use Rattle.segment.specs.LookUp.{looked_up, look_up_of}
-use Rattle.segment.specs.Walk.{record_values, stepped, step_answer, step_of}
+use Rattle.segment.specs.LookUp.{LookedUp, looked_up, look_up_of}
+use Rattle.segment.specs.Walk.{record_values, stepped, step_answer, step_of, Step}
 use Rattle.segment.specs.Tidy.{Outcome, outcome, tidy_length_of, tidy_of}
 use Rattle.segment.specs.Write.{Request, write_of}
 use Rattle.segment.proofs.StepSettled.{step-settled}
@@ -34,41 +27,38 @@ use Rattle.write.proofs.RequestItems.{table-bad as write-bad}
 use Rattle.c_answer.specs.declared.Reply.{Reply}
 use Rattle.c_answer.specs.Boundary.{value_limit, answer_bits, bits_of, refused_bits, length_bits, Left, left, given_to, reply_of, reply_left, step_left, Small, Sayable, sealed_as}
 use Rattle.c_answer.proofs.Replies.{refused-is, reply-sayable}
-use Rattle.c_table.specs.Lent.{table_in}
-use Rattle.c_table.proofs.Taking.{Copied, alike-said}
+use Rattle.c_table.specs.Lent.{table_in, taken}
+use Rattle.c_table.proofs.Taking.{alike-said}
 use Rattle.asl.proofs.Places.{checked-place, looked-up-place, stepped-place, tidied-small, sized-small, wrote-small}
 
-step-bad : (pairs s : List ℕ) (k : ℕ) → good_table pairs ≡ false → step_answer (NoStep (refusal TableWrong 0)) ≡ step_of pairs s k
+step-bad : (pairs s : List ℕ) (k : ℕ) → good_table pairs ≡ false → step_answer (Err (refusal TableWrong 0)) ≡ step_of pairs s k
 unfolding step_of stepped checked table_verdict
 step-bad pairs s k e = rw e
 
-module _ (bytes table : List ℕ) (count : ℕ) (l : Copied bytes table count) where
-  abbrev part : List ℕ
-  part = take count table
-
+module _ (bytes part : List ℕ) (l : part ≡ taken bytes) where
   -- check
   module _ (s : List ℕ) (v : Verdict) (c : check_answer v ≡ check_of part s) where
     checked-alike : check_answer v ≡ check_of (table_in bytes) s
-    checked-alike = c ∙ alike-said (λ p. check_of p s) (check_answer (Refused (refusal TableWrong 0))) (λ p. check-bad p s) l
+    checked-alike = c ∙ alike-said (λ p. check_of p s) (check_answer (Err (refusal TableWrong 0))) (λ p. check-bad p s) bytes l
 
-    pub check-accepted : v ≡ Accepted → 0 ≡ bits_of (check_of (table_in bytes) s) 0
+    pub check-accepted : v ≡ accepted → 0 ≡ bits_of (check_of (table_in bytes) s) 0
     unfolding bits_of answer_bits
     check-accepted e = ap (λ (a : Answer). bits_of a 0) (sym (ap check_answer e) ∙ checked-alike)
 
-    pub check-refused : {x : Refusal} {b : ℕ} → v ≡ Refused x → b ≡ refused_bits x → b ≡ bits_of (check_of (table_in bytes) s) 0
+    pub check-refused : {x : Refusal} {b : ℕ} → v ≡ Err x → b ≡ refused_bits x → b ≡ bits_of (check_of (table_in bytes) s) 0
     check-refused {x} e g = g ∙ refused-is x 0 ∙ ap (λ (a : Answer). bits_of a 0) (sym (ap check_answer e) ∙ checked-alike)
 
-    pub check-place : {x : Refusal} → v ≡ Refused x → x.1 < value_limit
+    pub check-place : {x : Refusal} → v ≡ Err x → x.1 < value_limit
     unfolding check_of
     check-place {x} e = checked-place part s x (sym (check-settled v (checked part s) c) ∙ e)
 
   -- look up
-  module _ (s : List ℕ) (key : Key) (f : Found) (c : found_answer f ≡ look_up_of part s key) where
+  module _ (s : List ℕ) (key : Key) (f : LookedUp) (c : found_answer f ≡ look_up_of part s key) where
     found_alike : f ≡ looked_up (table_in bytes) s key
     unfolding look_up_of
     found_alike =
         found-settled f (looked_up (table_in bytes) s key)
-        (c ∙ alike-said (λ p. look_up_of p s key) (found_answer (NotFound (refusal TableWrong 0))) (λ p. look-up-bad p s key) l)
+        (c ∙ alike-said (λ p. look_up_of p s key) (found_answer (Err (refusal TableWrong 0))) (λ p. look-up-bad p s key) bytes l)
 
     pub look-up-sayable : (a : Reply) → a ≡ reply_of f → Sayable a
     look-up-sayable a e = reply-sayable a f e (λ r g. looked-up-place (table_in bytes) s key r (sym found_alike ∙ g))
@@ -82,25 +72,25 @@ module _ (bytes table : List ℕ) (count : ℕ) (l : Copied bytes table count) w
     step-alike : t ≡ stepped (table_in bytes) s k
     unfolding step_of
     step-alike =
-        step-settled t (stepped (table_in bytes) s k) (c ∙ alike-said (λ p. step_of p s k) (step_answer (NoStep (refusal TableWrong 0))) (λ p. step-bad p s k) l)
+        step-settled t (stepped (table_in bytes) s k) (c ∙ alike-said (λ p. step_of p s k) (step_answer (Err (refusal TableWrong 0))) (λ p. step-bad p s k) bytes l)
 
-    pub step-place : {x : Refusal} → t ≡ NoStep x → x.1 < value_limit
+    pub step-place : {x : Refusal} → t ≡ Err x → x.1 < value_limit
     step-place {x} e = stepped-place (table_in bytes) s k x (sym step-alike ∙ e)
 
     module _ (fields : List ℕ) where
       by-step : (x : Left) → x ≡ step_left t fields → x ≡ step_left (stepped (table_in bytes) s k) fields
       by-step x e = e ∙ ap (λ (u : Step). step_left u fields) step-alike
 
-      pub step_row : {r : Record} (values after : List ℕ) (b : ℕ) → t ≡ Row r → values ≡ record_values r → left b after ≡ given_to 1 values fields
+      pub step_row : {r : Record} (values after : List ℕ) (b : ℕ) → t ≡ Ok (Some r) → values ≡ record_values r → left b after ≡ given_to 1 values fields
           → left b after ≡ step_left (stepped (table_in bytes) s k) fields
       unfolding step_left
       step_row values after b e v g = by-step (left b after) (rw e (g ∙ ap (λ (u : List ℕ). given_to 1 u fields) v))
 
-      pub step-done : {b : ℕ} → t ≡ NoRow → b ≡ answer_bits 0 0 2 → left b fields ≡ step_left (stepped (table_in bytes) s k) fields
+      pub step-done : {b : ℕ} → t ≡ Ok None → b ≡ answer_bits 0 0 2 → left b fields ≡ step_left (stepped (table_in bytes) s k) fields
       unfolding step_left
       step-done {b} e g = by-step (left b fields) (rw (e, g))
 
-      pub step-refused : {x : Refusal} {b : ℕ} → t ≡ NoStep x → b ≡ refused_bits x → left b fields ≡ step_left (stepped (table_in bytes) s k) fields
+      pub step-refused : {x : Refusal} {b : ℕ} → t ≡ Err x → b ≡ refused_bits x → left b fields ≡ step_left (stepped (table_in bytes) s k) fields
       unfolding step_left
       step-refused {b = b} e g = by-step (left b fields) (rw (e, g))
 
@@ -111,7 +101,7 @@ module _ (bytes table : List ℕ) (count : ℕ) (l : Copied bytes table count) w
 
     pub length-said : {b : ℕ} → b ≡ length_bits (written_answer w) → b ≡ length_bits (tidy_length_of (table_in bytes) s)
     length-said g =
-        g ∙ ap (λ (a : Answer). length_bits a) (c ∙ alike-said (λ p. tidy_length_of p s) (written_answer (NotWritten (refusal TableWrong 0))) (λ p. length-bad p s) l)
+        g ∙ ap (λ (a : Answer). length_bits a) (c ∙ alike-said (λ p. tidy_length_of p s) (written_answer (Err (refusal TableWrong 0))) (λ p. length-bad p s) bytes l)
 
   -- tidy and write
   sealed : (w : Written) (o : Outcome) {b : ℕ} {after : List ℕ} → outcome w after ≡ o → b ≡ length_bits (written_answer w) → left b after ≡ sealed_as o
@@ -123,11 +113,11 @@ module _ (bytes table : List ℕ) (count : ℕ) (l : Copied bytes table count) w
     tidy-small = tidied-small part s out after w c
 
     pub tidied : {b : ℕ} → b ≡ length_bits (written_answer w) → left b after ≡ sealed_as (tidy_of (table_in bytes) s out)
-    tidied f = sealed w (tidy_of (table_in bytes) s out) (c ∙ alike-said (λ p. tidy_of p s out) (outcome (NotWritten (refusal TableWrong 0)) out) (λ p. tidy-bad p s out) l) f
+    tidied f = sealed w (tidy_of (table_in bytes) s out) (c ∙ alike-said (λ p. tidy_of p s out) (outcome (Err (refusal TableWrong 0)) out) (λ p. tidy-bad p s out) bytes l) f
 
   module _ (q : Request) (out after : List ℕ) (w : Written) (c : outcome w after ≡ write_of part q out) where
     pub write-small : Small w
     write-small = wrote-small part q out after w c
 
     pub written : {b : ℕ} → b ≡ length_bits (written_answer w) → left b after ≡ sealed_as (write_of (table_in bytes) q out)
-    written f = sealed w (write_of (table_in bytes) q out) (c ∙ alike-said (λ p. write_of p q out) (outcome (NotWritten (refusal TableWrong 0)) out) (λ p. write-bad p q out) l) f
+    written f = sealed w (write_of (table_in bytes) q out) (c ∙ alike-said (λ p. write_of p q out) (outcome (Err (refusal TableWrong 0)) out) (λ p. write-bad p q out) bytes l) f

@@ -2,29 +2,21 @@
 -- Assumes nothing.
 use Prim.Native.Nat.{ℕ, ◌<◌}
 use mathlib.Core.Path.{◌≡◌, refl, sym, ap, subst}
-use mathlib.Core.Bool.{Bool, true, false, cond}
+use mathlib.Core.Bool.{true}
 use mathlib.Core.List.{List}
 use native.Mathlib.Omega.{arith}
 use borrow.Author.Tests.{leb-true}
-use lib.Dec.{leb, ltb, lit<}
+use lib.Dec.{leb, lit<}
 use lib.ListN.{length}
+use Rattle.std.specs.Prelude.{Result, Err, Ok}
 use Rattle.answer.specs.declared.Refusal.{Refusal}
 use Rattle.answer.specs.declared.Rule.TheVariants.{Large, Room, Key as KeyWrong}
-use Rattle.answer.specs.declared.Verdict.{Verdict}
-use Rattle.answer.specs.declared.Verdict.TheVariants.{Accepted, Refused}
-use Rattle.answer.specs.declared.Found.{Found}
-use Rattle.answer.specs.declared.Found.TheVariants.{Refused as NotFound}
-use Rattle.answer.specs.declared.Written.{Written}
-use Rattle.answer.specs.declared.Written.TheVariants.{Done, Refused as NotWritten}
-use Rattle.answer.specs.Rules.{must, ◌then◌, after}
-use Rattle.answer.specs.Answers.{refusal, written_answer}
+use Rattle.answer.specs.Rules.{must, ◌then◌, Verdict, accepted}
+use Rattle.answer.specs.Answers.{refusal, written_answer, Written}
 use Rattle.answer.proofs.Order.{must-accepted, then-accepted}
 use Rattle.answer.proofs.Places.{Placed, accepts, refuses, placed-must, placed-then, placed_below}
 use Rattle.answer.proofs.Settled.{written-settled}
-use Rattle.segment.specs.declared.record.Record.{Record}
-use Rattle.segment.specs.declared.step.Step.{Step}
-use Rattle.segment.specs.declared.step.Step.TheVariants.{Row, Done as NoRow, Refused as NoStep}
-use Rattle.segment.specs.Format.{v3, file_limit, header_of, record_count, record_no}
+use Rattle.segment.specs.Format.{v3, file_limit}
 use Rattle.segment.specs.Keys.{Key, allows_key}
 use Rattle.segment.specs.Check.{segment_verdict, checked}
 use Rattle.segment.specs.LookUp.{key_verdict, found_under, looked_up}
@@ -33,7 +25,6 @@ use Rattle.segment.specs.Meaning.{meaning_of}
 use Rattle.segment.specs.Tidy.{Outcome, outcome, tidy_form, room_verdict, settled, tidied, tidy_of, tidy_sized, tidy_length_of}
 use Rattle.segment.specs.Write.{Request, request_verdict, wrote, write_of}
 use Rattle.segment.proofs.Shapes.{v3-shaped}
-use Rattle.segment.proofs.Found.{never-refused}
 use Rattle.check_book.proofs.Places.{table-placed, segment-placed}
 use Rattle.write_book.proofs.Places.{request-placed}
 use Rattle.c_answer.specs.Boundary.{Small, value_limit}
@@ -52,40 +43,35 @@ key-placed : (pairs : List ℕ) (key : Key) → Placed value_limit (key_verdict 
 unfolding key_verdict
 key-placed pairs key = placed-must (allows_key pairs key) KeyWrong 0 some
 
-pub checked-place : (pairs s : List ℕ) (r : Refusal) → checked pairs s ≡ Refused r → r.1 < value_limit
+pub checked-place : (pairs s : List ℕ) (r : Refusal) → checked pairs s ≡ Err r → r.1 < value_limit
 checked-place pairs s r e = placed_below (check-placed pairs s) r e
 
--- ---- look up
+-- what is refused in order, and a value behind it that is refused nowhere
+value-place : {A : Type 0} {x : A} (r : Refusal) → Ok x ≡ Err r → r.1 < value_limit
+value-place r e = let z : ◌≡◌ {A = ℕ} 0 1 = cc in absurd (omega arith)
 
-found_after : {v : Verdict} (f : Found) → Placed value_limit v → ((r : Refusal) → f ≡ NotFound r → r.1 < value_limit) → (r : Refusal) → after NotFound v f ≡ NotFound r → r.1 < value_limit
-found_after f accepts p r e = p r e
-found_after f (refuses {q} l) p r e = let h : q ≡ r = cc in subst (λ (x : Refusal). x.1 < value_limit) h l
+then-place : {A : Type 0} {v : Verdict} (w : Result A Refusal) → Placed value_limit v → ((r : Refusal) → w ≡ Err r → r.1 < value_limit)
+    → (r : Refusal) → (v then w) ≡ Err r → r.1 < value_limit
+then-place w accepts p r e = p r e
+then-place w (refuses {q} l) p r e = let h : q ≡ r = cc in subst (λ (x : Refusal). x.1 < value_limit) h l
 
-pub looked-up-place : (pairs s : List ℕ) (key : Key) (r : Refusal) → looked_up pairs s key ≡ NotFound r → r.1 < value_limit
+-- ---- look up, and a step
+
+pub looked-up-place : (pairs s : List ℕ) (key : Key) (r : Refusal) → looked_up pairs s key ≡ Err r → r.1 < value_limit
 unfolding looked_up found_under
 looked-up-place pairs s key =
-    found_after _ (table-placed some pairs)
-    (found_after _ (placed-then (key-placed pairs key) (under-placed pairs s)) (λ r e. absurd (never-refused v3 s (header_of s) key r e)))
+    then-place _ (table-placed some pairs)
+    (then-place _ (key-placed pairs key) (then-place _ (under-placed pairs s) value-place))
 
--- ---- a step
-
-step_after : {v : Verdict} (f : Step) → Placed value_limit v → ((r : Refusal) → f ≡ NoStep r → r.1 < value_limit) → (r : Refusal) → after NoStep v f ≡ NoStep r → r.1 < value_limit
-step_after f accepts p r e = p r e
-step_after f (refuses {q} l) p r e = let h : q ≡ r = cc in subst (λ (x : Refusal). x.1 < value_limit) h l
-
-no-refusal : (b : Bool) (q : Record) (r : Refusal) → cond b (Row q) NoRow ≡ NoStep r → r.1 < value_limit
-no-refusal true q r e = let z : ◌≡◌ {A = ℕ} 0 1 = cc in absurd (omega arith)
-no-refusal false q r e = let z : ◌≡◌ {A = ℕ} 0 1 = cc in absurd (omega arith)
-
-pub stepped-place : (pairs s : List ℕ) (k : ℕ) (r : Refusal) → stepped pairs s k ≡ NoStep r → r.1 < value_limit
+pub stepped-place : (pairs s : List ℕ) (k : ℕ) (r : Refusal) → stepped pairs s k ≡ Err r → r.1 < value_limit
 unfolding stepped
-stepped-place pairs s k = step_after _ (check-placed pairs s) (no-refusal (ltb k (record_count (header_of s))) (record_no v3 s (header_of s) k))
+stepped-place pairs s k = then-place _ (check-placed pairs s) value-place
 
 -- ---- lengths
 
-written_after : {v : Verdict} (n : ℕ) → Placed value_limit v → (v ≡ Accepted → n < value_limit) → Small (after NotWritten v (Done n))
-written_after n accepts p = p refl
-written_after n (refuses l) p = l
+then-small : {v : Verdict} (n : ℕ) → Placed value_limit v → (v ≡ accepted → n < value_limit) → Small (v then Ok n)
+then-small n accepts p = p refl
+then-small n (refuses l) p = l
 
 -- a length that keeps to the limit is small
 kept_small : (n : ℕ) → leb n file_limit ≡ true → n < value_limit
@@ -95,7 +81,7 @@ settled-small : (v : Verdict) (form : List ℕ) (room : ℕ) → Placed value_li
 unfolding settled room_verdict
 settled-small v form room p =
     let n : ℕ = length form in
-    written_after n (placed-then p (placed-then (placed-must (leb n file_limit) Large 0 some) (placed-must (leb n room) Room 0 some)))
+    then-small n (placed-then p (placed-then (placed-must (leb n file_limit) Large 0 some) (placed-must (leb n room) Room 0 some)))
     (λ e.
     let kept = ((then-accepted (must (leb n file_limit) (refusal Large 0)) (must (leb n room) (refusal Room 0))).0 ((then-accepted v _).0 e).1).0 in
     kept_small n ((must-accepted (leb n file_limit) (refusal Large 0)).0 kept))
@@ -114,7 +100,7 @@ unfolding tidy_length_of tidy_sized
 sized-small pairs s w e =
     let n : ℕ = length (tidy_form v3 (meaning_of v3 s)) in
     same-small w (tidy_sized pairs s) e
-    (written_after n (placed-then (check-placed pairs s) (placed-must (leb n file_limit) Large 0 some))
+    (then-small n (placed-then (check-placed pairs s) (placed-must (leb n file_limit) Large 0 some))
     (λ f. kept_small n ((must-accepted (leb n file_limit) (refusal Large 0)).0 ((then-accepted (checked pairs s) _).0 f).1)))
 
 request-verdict : (pairs : List ℕ) (q : Request) → Placed value_limit (request_verdict v3 pairs q)

@@ -1,7 +1,7 @@
 // What the entry points for C do; `asl_c` exports each, and include/asl.h declares it and wraps it, so that lists are counted in items. Each
 // is total by its own checks, on numbers and slices, and returns one number: 0 or a refusal's number in the lowest byte, and from
 // the third byte on a value, or the refusal's place. Where it refuses it changes nothing. A table is lent as bytes, eight to a number.
-// The first number asks for an engine of the checksum (`checksum::engine_of`), and makes no difference to the answer.
+// The first number asks for an engine of the checksum (`Engine::from`), and makes no difference to the answer.
 ghost use Rattle.std.specs.Prelude.{◌≡◌};
 ghost use Rattle.segment.specs.Keys.{key_from};
 ghost use Rattle.segment.specs.Check.{check_of};
@@ -13,9 +13,8 @@ ghost use Rattle.write.specs.Seal.{asked};
 ghost use Rattle.c_table.specs.Lent.{table_in};
 ghost use Rattle.c_answer.specs.Boundary.{bits_of, length_bits, left, reply_of, reply_left, step_left, headed, sealed_as};
 
-use answer::Verdict;
+use checksum::Engine;
 use segment::header::Heading;
-use segment::step::Step;
 
 // The number of the engine for a caller who does not choose.
 pub const FAST: u64 = 0;
@@ -23,12 +22,11 @@ pub const FAST: u64 = 0;
 pub fn asl_raw_check_by(engine: u64, table: &[u8], segment: &[u8]) -> u64
     ensures { result ≡ bits_of (check_of (table_in table.now) segment.now) 0 }
 {
-    let by = checksum::engine_of(engine);
-    let numbers = c_table::numbers_in(table);
-    let count = c_table::count_in(table);
-    match check_segment::check_by(by, &numbers[..count], segment) {
-        Verdict::Accepted => 0,
-        Verdict::Refused(r) => c_answer::refuse(r),
+    let by = Engine::from(engine);
+    let lent = c_table::Lent::new(table);
+    match check_segment::check_by(by, lent.pairs(), segment) {
+        Ok(()) => 0,
+        Err(r) => c_answer::refuse(r),
     }
 }
 
@@ -45,10 +43,9 @@ pub fn asl_raw_look_up_by(
         reply_left (reply_of (looked_up (table_in table.now) segment.now (key_from hash_id digest.now)))
         found.old }
 {
-    let by = checksum::engine_of(engine);
-    let numbers = c_table::numbers_in(table);
-    let count = c_table::count_in(table);
-    let answer = look_up::look_up_by(by, &numbers[..count], segment, hash_id, digest);
+    let by = Engine::from(engine);
+    let lent = c_table::Lent::new(table);
+    let answer = look_up::look_up_by(by, lent.pairs(), segment, hash_id, digest);
     c_answer::leave(c_answer::in_numbers(answer), found)
 }
 
@@ -57,35 +54,32 @@ pub fn asl_raw_step_by(engine: u64, table: &[u8], segment: &[u8], at: u64, field
     ensures { left result fields.new ≡
         step_left (stepped (table_in table.now) segment.now at) fields.old }
 {
-    let by = checksum::engine_of(engine);
-    let numbers = c_table::numbers_in(table);
-    let count = c_table::count_in(table);
-    match walk::step_from_by(by, &numbers[..count], segment, at as usize) {
-        Step::Row(r) => {
+    let by = Engine::from(engine);
+    let lent = c_table::Lent::new(table);
+    match walk::step_from_by(by, lent.pairs(), segment, at as usize) {
+        Ok(Some(r)) => {
             let values = c_answer::record_numbers(r);
             c_answer::give(1, &values[..13], fields)
         }
-        Step::Done => c_answer::bits(0, 2),
-        Step::Refused(r) => c_answer::refuse(r),
+        Ok(None) => c_answer::bits(0, 2),
+        Err(r) => c_answer::refuse(r),
     }
 }
 
 pub fn asl_raw_tidy_length_by(engine: u64, table: &[u8], segment: &[u8]) -> u64
     ensures { result ≡ length_bits (tidy_length_of (table_in table.now) segment.now) }
 {
-    let by = checksum::engine_of(engine);
-    let numbers = c_table::numbers_in(table);
-    let count = c_table::count_in(table);
-    c_answer::settle(tidy_length::tidy_length_by(by, &numbers[..count], segment))
+    let by = Engine::from(engine);
+    let lent = c_table::Lent::new(table);
+    c_answer::settle(tidy_length::tidy_length_by(by, lent.pairs(), segment))
 }
 
 pub fn asl_raw_tidy_by(engine: u64, table: &[u8], segment: &[u8], out: &mut [u8]) -> u64
     ensures { left result out.new ≡ sealed_as (tidy_of (table_in table.now) segment.now out.old) }
 {
-    let by = checksum::engine_of(engine);
-    let numbers = c_table::numbers_in(table);
-    let count = c_table::count_in(table);
-    let answer = tidy::tidy_by(by, &numbers[..count], segment, out);
+    let by = Engine::from(engine);
+    let lent = c_table::Lent::new(table);
+    let answer = tidy::tidy_by(by, lent.pairs(), segment, out);
     c_answer::settle(answer)
 }
 
@@ -110,9 +104,8 @@ pub fn asl_raw_write_by(
         bloom.now entries.now digests.now extents.now)
         out.old) }
 {
-    let by = checksum::engine_of(engine);
-    let numbers = c_table::numbers_in(table);
-    let count = c_table::count_in(table);
+    let by = Engine::from(engine);
+    let lent = c_table::Lent::new(table);
     let heading = Heading {
         shard,
         snapshot_min,
@@ -123,7 +116,7 @@ pub fn asl_raw_write_by(
     };
     let answer = write::write_by(
         by,
-        &numbers[..count],
+        lent.pairs(),
         heading,
         bloom,
         entries,

@@ -3,10 +3,12 @@ ghost use Rattle.std.specs.Prelude.{◌≡◌};
 ghost use Rattle.crc64.specs.Crc.{crc};
 ghost use Rattle.checksum.specs.Parts.{crc_on};
 
+use checksum::Engine;
+
 pub fn asl_raw_checksum_by(engine: u64, bytes: &[u8]) -> u64
     ensures { result ≡ crc bytes.now }
 {
-    checksum::checksum_by(checksum::engine_of(engine), bytes)
+    checksum::checksum_by(Engine::from(engine), bytes)
 }
 
 pub fn asl_raw_checksum(bytes: &[u8]) -> u64
@@ -19,7 +21,7 @@ pub fn asl_raw_checksum(bytes: &[u8]) -> u64
 pub fn asl_raw_checksum_on_by(engine: u64, before: u64, bytes: &[u8]) -> u64
     ensures { result ≡ crc_on before bytes.now }
 {
-    checksum::checksum_on_by(checksum::engine_of(engine), before, bytes)
+    checksum::checksum_on_by(Engine::from(engine), before, bytes)
 }
 
 pub fn asl_raw_checksum_on(before: u64, bytes: &[u8]) -> u64

@@ -7,23 +7,21 @@ use native.Mathlib.Numerals.{add-one}
 use native.Mathlib.Omega.{arith}
 use lib.Dec.{lit<}
 use lib.ListN.{length, get_or, take, replicate, length-append}
-use lib.Seq.{take-suc, take_all, length-take-le}
+use lib.Seq.{take-suc, length-take-le}
+use Rattle.std.specs.Prelude.{Err, None, Ok, Some}
 use Rattle.numbers.specs.Numbers.{bytes_of, put}
 use Rattle.numbers.proofs.NumberLaws.{length-bytes_of, put-put, length-put}
 use Rattle.numbers.proofs.Copies.{copying-start}
 use Rattle.answer.specs.declared.Rule.{Rule}
 use Rattle.answer.specs.declared.Rule.TheVariants.{Room}
 use Rattle.answer.specs.declared.Refusal.{Refusal}
-use Rattle.answer.specs.declared.Source.{Source}
-use Rattle.answer.specs.declared.Source.TheVariants.{None, Domain}
-use Rattle.answer.specs.declared.Found.{Found}
 use Rattle.offset.specs.declared.FileOffset.{FileOffset}
-use Rattle.answer.specs.declared.Found.TheVariants.{Absent, Gone, Present, Refused}
-use Rattle.answer.specs.declared.Written.{Written}
-use Rattle.answer.specs.declared.Written.TheVariants.{Done, Refused as NotWritten}
-use Rattle.answer.specs.Answers.{rule_number, refusal, number_of, place_of, refused, written_answer}
+use Rattle.answer.specs.declared.Found.{Found}
+use Rattle.answer.specs.declared.Found.TheVariants.{Absent, Gone, Present}
+use Rattle.answer.specs.Answers.{rule_number, refusal, number_of, place_of, refused, written_answer, Source, Written}
 use Rattle.answer.proofs.Settled.{in-table, table-small, not-answered}
 use Rattle.lists.proofs.Tests.{tests}
+use Rattle.segment.specs.LookUp.{LookedUp}
 use Rattle.c_answer.specs.declared.Reply.{Reply}
 use Rattle.c_answer.specs.Boundary.{
   answer_bits,
@@ -46,73 +44,77 @@ module _ (state v d : ℕ) (o : Source) (t at n : ℕ) where
   unfolding replied
   of_none e = rw e
 
-  pub of-domain : (x : ℕ) → o ≡ Domain x → record { number = 0; place = 0; values = state ∷ v ∷ d ∷ 1 ∷ x ∷ t ∷ at ∷ n ∷ [] } ≡ replied state v d o t at n
+  pub of-domain : (x : ℕ) → o ≡ Some x → record { number = 0; place = 0; values = state ∷ v ∷ d ∷ 1 ∷ x ∷ t ∷ at ∷ n ∷ [] } ≡ replied state v d o t at n
   unfolding replied
   of-domain x e = rw e
 
 -- the numbers of a record are the answer's values, with zeros after them
-said-gone : (v d : ℕ) (o : Source) → replied 2 v d o 0 0 0 ≡ reply_of (Gone v d o)
+said-gone : (v d : ℕ) (o : Source) → replied 2 v d o 0 0 0 ≡ reply_of (Ok (Gone v d o))
 unfolding replied reply_of
 said-gone v d None = refl
-said-gone v d (Domain x) = refl
+said-gone v d (Some x) = refl
 
-said-present : (v d : ℕ) (o : Source) (t : ℕ) (at : FileOffset) (n : ℕ) → replied 3 v d o t at.0 n ≡ reply_of (Present v d o t at n)
+said-present : (v d : ℕ) (o : Source) (t : ℕ) (at : FileOffset) (n : ℕ) → replied 3 v d o t at.0 n ≡ reply_of (Ok (Present v d o t at n))
 unfolding replied reply_of
 said-present v d None t at n = refl
-said-present v d (Domain x) t at n = refl
+said-present v d (Some x) t at n = refl
 
 module _ (f : Found) where
-  pub reply-absent : f ≡ Absent → record { number = 0; place = 0; values = 1 ∷ 0 ∷ 0 ∷ 0 ∷ 0 ∷ 0 ∷ 0 ∷ 0 ∷ [] } ≡ reply_of f
+  pub reply-absent : f ≡ Absent → record { number = 0; place = 0; values = 1 ∷ 0 ∷ 0 ∷ 0 ∷ 0 ∷ 0 ∷ 0 ∷ 0 ∷ [] } ≡ reply_of (Ok f)
   unfolding reply_of
   reply-absent e = rw e
 
-  pub reply-gone : {v d : ℕ} {o : Source} {r : Reply} → f ≡ Gone v d o → r ≡ replied 2 v d o 0 0 0 → r ≡ reply_of f
+  pub reply-gone : {v d : ℕ} {o : Source} {r : Reply} → f ≡ Gone v d o → r ≡ replied 2 v d o 0 0 0 → r ≡ reply_of (Ok f)
   reply-gone {v} {d} {o} e g = rw e (g ∙ said-gone v d o)
 
-  pub reply-present : {v d : ℕ} {o : Source} {t : ℕ} {at : FileOffset} {n : ℕ} {r : Reply} → f ≡ Present v d o t at n → r ≡ replied 3 v d o t at.0 n → r ≡ reply_of f
+  pub reply-present : {v d : ℕ} {o : Source} {t : ℕ} {at : FileOffset} {n : ℕ} {r : Reply} → f ≡ Present v d o t at n → r ≡ replied 3 v d o t at.0 n → r ≡ reply_of (Ok f)
   reply-present {v} {d} {o} {t} {at} {n} e g = rw e (g ∙ said-present v d o t at n)
 
-  pub reply-refused : {x : Refusal} {n p : ℕ} → f ≡ Refused x → n ≡ number_of x → p ≡ place_of x
+module _ (f : LookedUp) where
+  pub reply-answered : {x : Found} {r : Reply} → f ≡ Ok x → r ≡ reply_of (Ok x) → r ≡ reply_of f
+  reply-answered e g = g ∙ ap reply_of (sym e)
+
+  pub reply-refused : {x : Refusal} {n p : ℕ} → f ≡ Err x → n ≡ number_of x → p ≡ place_of x
       → record { number = n; place = p; values = replicate 8 0 } ≡ reply_of f
   unfolding reply_of
   reply-refused e g h = rw e (rw (g, h))
 
-values-long : (f : Found) → length (reply_of f).values ≡ 8
+values-long : (f : LookedUp) → length (reply_of f).values ≡ 8
 unfolding reply_of
-values-long Absent = refl
-values-long (Gone v d None) = refl
-values-long (Gone v d (Domain x)) = refl
-values-long (Present v d None t at n) = refl
-values-long (Present v d (Domain x) t at n) = refl
-values-long (Refused r) = refl
+values-long (Ok Absent) = refl
+values-long (Ok (Gone v d None)) = refl
+values-long (Ok (Gone v d (Some x))) = refl
+values-long (Ok (Present v d None t at n)) = refl
+values-long (Ok (Present v d (Some x) t at n)) = refl
+values-long (Err r) = refl
 
 -- the state is the first number, and small
-state-small : (f : Found) → get_or (reply_of f).values 0 0 < 281474976710656
+state-small : (f : LookedUp) → get_or (reply_of f).values 0 0 < 281474976710656
 unfolding reply_of
-state-small Absent = lit< tt
-state-small (Gone v d o) = lit< tt
-state-small (Present v d o t at n) = lit< tt
-state-small (Refused r) = lit< tt
+state-small (Ok Absent) = lit< tt
+state-small (Ok (Gone v d o)) = lit< tt
+state-small (Ok (Present v d o t at n)) = lit< tt
+state-small (Err r) = lit< tt
 
 -- a refusal's number has a byte
 pub rule-small : (q : Rule) → rule_number q < 256
 rule-small q = (table-small (rule_number q) (in-table q)).1
 
-number_small : (f : Found) → (reply_of f).number < 256
+number_small : (f : LookedUp) → (reply_of f).number < 256
 unfolding reply_of
-number_small Absent = lit< tt
-number_small (Gone v d o) = lit< tt
-number_small (Present v d o t at n) = lit< tt
-number_small (Refused r) = rule-small r.0
+number_small (Ok Absent) = lit< tt
+number_small (Ok (Gone v d o)) = lit< tt
+number_small (Ok (Present v d o t at n)) = lit< tt
+number_small (Err r) = rule-small r.0
 
-place-small : (f : Found) → ((r : Refusal) → f ≡ Refused r → place_of r < 281474976710656) → (reply_of f).place < 281474976710656
+place-small : (f : LookedUp) → ((r : Refusal) → f ≡ Err r → place_of r < 281474976710656) → (reply_of f).place < 281474976710656
 unfolding reply_of
-place-small Absent p = lit< tt
-place-small (Gone v d o) p = lit< tt
-place-small (Present v d o t at n) p = lit< tt
-place-small (Refused r) p = p r refl
+place-small (Ok Absent) p = lit< tt
+place-small (Ok (Gone v d o)) p = lit< tt
+place-small (Ok (Present v d o t at n)) p = lit< tt
+place-small (Err r) p = p r refl
 
-pub reply-sayable : (a : Reply) (f : Found) → a ≡ reply_of f → ((r : Refusal) → f ≡ Refused r → place_of r < 281474976710656) → Sayable a
+pub reply-sayable : (a : Reply) (f : LookedUp) → a ≡ reply_of f → ((r : Refusal) → f ≡ Err r → place_of r < 281474976710656) → Sayable a
 reply-sayable a f e p = rw e (record { long = values-long f; number = number_small f; place = place-small f p; state = state-small f })
 
 -- ---- one number
@@ -120,7 +122,7 @@ reply-sayable a f e p = rw e (record { long = values-long f; number = number_sma
 pub refused-bits : (r : Refusal) (n p b : ℕ) → n ≡ number_of r → p ≡ place_of r → b ≡ answer_bits n 0 p → b ≡ refused_bits r
 refused-bits r n p b e f g = g ∙ rw (e, f)
 
-pub settled-done : (w : Written) (n b : ℕ) → w ≡ Done n → b ≡ answer_bits 0 0 n → b ≡ bits_of (written_answer w) (first_value (written_answer w).values)
+pub settled-done : (w : Written) (n b : ℕ) → w ≡ Ok n → b ≡ answer_bits 0 0 n → b ≡ bits_of (written_answer w) (first_value (written_answer w).values)
 unfolding bits_of
 settled-done w n b e g = rw e g
 
@@ -128,13 +130,13 @@ pub refused-is : (r : Refusal) (value : ℕ) → refused_bits r ≡ bits_of (ref
 unfolding bits_of
 refused-is r value = rw (not-answered r)
 
-pub settled-refused : (w : Written) (r : Refusal) (b : ℕ) → w ≡ NotWritten r → b ≡ refused_bits r → b ≡ bits_of (written_answer w) (first_value (written_answer w).values)
+pub settled-refused : (w : Written) (r : Refusal) (b : ℕ) → w ≡ Err r → b ≡ refused_bits r → b ≡ bits_of (written_answer w) (first_value (written_answer w).values)
 settled-refused w r b e g = rw e (g ∙ refused-is r 0)
 
-pub done-small : (w : Written) (n : ℕ) → w ≡ Done n → Small w → n < 281474976710656
+pub done-small : (w : Written) (n : ℕ) → w ≡ Ok n → Small w → n < 281474976710656
 done-small w n e s = subst Small e s
 
-pub refused-small : (w : Written) (r : Refusal) → w ≡ NotWritten r → Small w → place_of r < 281474976710656
+pub refused-small : (w : Written) (r : Refusal) → w ≡ Err r → Small w → place_of r < 281474976710656
 refused-small w r e s = subst Small e s
 
 -- ---- numbers in bytes
@@ -178,9 +180,6 @@ module _ (ns out₀ : List ℕ) (i : ℕ) (out : List ℕ) (p : Putting ns out�
         same = ap length e ∙ length-put out (8 * i) ys room ∙ p.same;
         done = e ∙ ap (λ (o : List ℕ). put o (8 * i) ys) p.done ∙ j ∙ sym (ap (put out₀ 0) (numbers-snoc ns i l));
       }
-
-  pub putting-done : length ns ≤ i → out ≡ put out₀ 0 (number_bytes ns)
-  putting-done l = p.done ∙ ap (λ (t : List ℕ). put out₀ 0 (number_bytes t)) (take_all i ns l)
 
 -- ---- numbers for a lent slice
 

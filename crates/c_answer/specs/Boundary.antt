@@ -6,20 +6,15 @@
 --   number_bytes    numbers, eight bytes each
 --   reply_left, step_left, sealed_as   what look up, a step, and write and tidy return and leave
 -- Assumes nothing: these are definitions.
-use Rattle.std.specs.Prelude.{ℕ, ◌+◌, ◌*◌, ◌<◌, ◌≡◌, cond, List, [], ◌∷◌, ◌++◌, leb, eqb, length, get_or, take, replicate}
+use Rattle.std.specs.Prelude.{ℕ, ◌+◌, ◌*◌, ◌<◌, ◌≡◌, cond, List, [], ◌∷◌, ◌++◌, leb, eqb, length, get_or, take, replicate, Err, None, Ok, Some}
 use Rattle.numbers.specs.Numbers.{bytes_of, put}
 use Rattle.answer.specs.declared.Rule.TheVariants.{Room}
 use Rattle.answer.specs.declared.Refusal.{Refusal}
-use Rattle.answer.specs.declared.Source.{Source}
-use Rattle.answer.specs.declared.Found.{Found}
-use Rattle.answer.specs.declared.Found.TheVariants.{Absent, Gone, Present, Refused}
-use Rattle.answer.specs.declared.Written.{Written}
-use Rattle.answer.specs.declared.Written.TheVariants.{Done, Refused as NotWritten}
-use Rattle.answer.specs.Answers.{refusal, number_of, place_of, Answer, source_values, found_answer}
+use Rattle.answer.specs.declared.Found.TheVariants.{Absent, Gone, Present}
+use Rattle.answer.specs.Answers.{refusal, number_of, place_of, Answer, source_values, found_answer, Source, Written}
 use Rattle.segment.specs.declared.header.Heading.{Heading}
-use Rattle.segment.specs.declared.step.Step.{Step}
-use Rattle.segment.specs.declared.step.Step.TheVariants.{Row, Done as NoRow, Refused as NoStep}
-use Rattle.segment.specs.Walk.{record_values}
+use Rattle.segment.specs.LookUp.{LookedUp}
+use Rattle.segment.specs.Walk.{record_values, Step}
 use Rattle.segment.specs.Tidy.{Outcome}
 use Rattle.c_answer.specs.declared.Reply.{Reply}
 
@@ -49,8 +44,8 @@ length_bits a = bits_of a (first_value a.values)
 
 -- what write and tidy answer fits
 abbrev pub Small : Written → Type 0
-Small (Done n) = n < value_limit
-Small (NotWritten r) = place_of r < value_limit
+Small (Ok n) = n < value_limit
+Small (Err r) = place_of r < value_limit
 
 -- ---- and a slice
 
@@ -74,15 +69,15 @@ given_to value numbers out =
 -- ---- look up
 
 -- absent 1, gone 2, present 3; 0 is no answer
-abbrev pub state_of : Found → ℕ
-state_of Absent = 1
-state_of (Gone visibility domain source) = 2
-state_of (Present visibility domain source total start count) = 3
-state_of (Refused r) = 0
+abbrev pub state_of : LookedUp → ℕ
+state_of (Ok Absent) = 1
+state_of (Ok (Gone visibility domain source)) = 2
+state_of (Ok (Present visibility domain source total start count)) = 3
+state_of (Err r) = 0
 
 -- look up's answer by value: its number, its place, and eight numbers: the state, the answer's values, and zeros. So they are state,
 -- visibility, domain, imported, source, total, where the extents begin in the segment, and how many they are; what does not apply is 0
-unfoldable pub reply_of : Found → Reply
+unfoldable pub reply_of : LookedUp → Reply
 reply_of f = record {
   number = (found_answer f).number;
   place = (found_answer f).place;
@@ -104,9 +99,9 @@ reply_left a found = cond (eqb a.number 0) (given_to (get_or a.values 0 0) a.val
 -- ---- a step of the walk: a record's fields are left, and the value is 1; or the records are done, and it is 2
 
 unfoldable pub step_left : Step → List ℕ → Left
-step_left (Row r) fields = given_to 1 (record_values r) fields
-step_left NoRow fields = left (answer_bits 0 0 2) fields
-step_left (NoStep r) fields = left (refused_bits r) fields
+step_left (Ok (Some r)) fields = given_to 1 (record_values r) fields
+step_left (Ok None) fields = left (answer_bits 0 0 2) fields
+step_left (Err r) fields = left (refused_bits r) fields
 
 -- ---- write and tidy
 

@@ -2,7 +2,7 @@
 // lent slice of bytes.
 #![tactic(auto)]
 
-ghost use Rattle.std.specs.Prelude.{◌≡◌, ◌*◌, ◌≤◌, ◌<◌, length};
+ghost use Rattle.std.specs.Prelude.{◌≡◌, ◌*◌, ◌≤◌, ◌<◌, length, Ok};
 ghost use Rattle.numbers.specs.Numbers.{put};
 ghost use Rattle.answer.specs.Answers.{place_of, written_answer};
 ghost use Rattle.segment.specs.Walk.{record_values};
@@ -21,11 +21,12 @@ ghost use Rattle.c_answer.specs.Boundary.{
   Sayable,
 };
 
-use answer::{Found, Refusal, Rule, Source, Written};
+use answer::{Found, Refusal, Rule};
+use numbers::Number;
 use offset::FileOffset;
 use segment::record::Record;
 
-// Look up's answer in numbers.
+// Look up's answer in numbers: `number` is 0 where nothing is refused. C is given numbers, so a number says which.
 #[derive(Clone, Copy)]
 pub struct Reply {
     pub number: u64,
@@ -52,13 +53,13 @@ pub fn refuse(r: Refusal) -> u64
 }
 
 // Says what write and tidy answered.
-pub fn settle(w: Written) -> u64
+pub fn settle(w: Result<u64, Refusal>) -> u64
     requires { Small w }
     ensures { result ≡ length_bits (written_answer w) }
 {
     match w {
-        Written::Done(n) => bits(0, n),
-        Written::Refused(r) => refuse(r),
+        Ok(n) => bits(0, n),
+        Err(r) => refuse(r),
     }
 }
 
@@ -67,7 +68,7 @@ fn found(
     state: u64,
     visibility: u8,
     domain: u32,
-    source: Source,
+    source: Option<u32>,
     total: u64,
     start: FileOffset,
     count: u32,
@@ -78,12 +79,12 @@ fn found(
     let d = domain as u64;
     let n = count as u64;
     match source {
-        Source::None => Reply {
+        None => Reply {
             number: 0,
             place: 0,
             values: [state, v, d, 0, 0, total, start.0, n],
         },
-        Source::Domain(from) => Reply {
+        Some(from) => Reply {
             number: 0,
             place: 0,
             values: [state, v, d, 1, from as u64, total, start.0, n],
@@ -91,8 +92,9 @@ fn found(
     }
 }
 
-pub fn in_numbers(f: Found) -> Reply
-    ensures { result ≡ reply_of f }
+// The reply where nothing is refused.
+fn answered(f: Found) -> Reply
+    ensures { result ≡ reply_of (Ok f) }
 {
     match f {
         Found::Absent => Reply {
@@ -113,7 +115,15 @@ pub fn in_numbers(f: Found) -> Reply
             start,
             count,
         } => found(3, visibility, domain, source, total, start, count),
-        Found::Refused(r) => Reply {
+    }
+}
+
+pub fn in_numbers(f: Result<Found, Refusal>) -> Reply
+    ensures { result ≡ reply_of f }
+{
+    match f {
+        Ok(f) => answered(f),
+        Err(r) => Reply {
             number: answer_number::number(r),
             place: answer_number::place(r),
             values: [0u64; 8],
@@ -121,43 +131,24 @@ pub fn in_numbers(f: Found) -> Reply
     }
 }
 
-// Fields as wider numbers, so that who takes many of them need not show of each that it fits.
-fn wide8(x: u8) -> u64
-    ensures { result ≡ x }
-{
-    x as u64
-}
-
-fn wide16(x: u16) -> u64
-    ensures { result ≡ x }
-{
-    x as u64
-}
-
-fn wide32(x: u32) -> u64
-    ensures { result ≡ x }
-{
-    x as u64
-}
-
 // A record's fields as numbers, in their order.
 pub fn record_numbers(r: Record) -> [u64; 13]
     ensures { result ≡ record_values r }
 {
     [
-        wide32(r.hash_id),
-        wide16(r.digest_length),
-        wide16(r.reserved),
+        u64::from(r.hash_id),
+        u64::from(r.digest_length),
+        u64::from(r.reserved),
         r.digest_offset.0,
         r.extents_offset.0,
-        wide32(r.extent_count),
+        u64::from(r.extent_count),
         r.total_length,
-        wide32(r.domain),
-        wide8(r.visibility),
-        wide8(r.imported),
-        wide16(r.reserved_last),
-        wide32(r.source),
-        wide32(r.flags),
+        u64::from(r.domain),
+        u64::from(r.visibility),
+        u64::from(r.imported),
+        u64::from(r.reserved_last),
+        u64::from(r.source),
+        u64::from(r.flags),
     ]
 }
 
@@ -166,10 +157,8 @@ fn put_numbers(values: &[u64], out: &mut [u8])
     requires { 8 * length values.now ≤ length out.old }
     ensures { out.new ≡ put out.old 0 (number_bytes values.now) }
 {
-    let mut i = 0;
-    while i < values.len() {
-        numbers::put_u64(out, 8 * i, values[i]);
-        i += 1;
+    for (i, value) in values.iter().enumerate() {
+        value.put(out, 8 * i);
     }
 }
 

@@ -25,12 +25,10 @@ pub fn of_text() {
 }
 
 pub fn of_equal_bytes() {
-    let zeros = [0u8; 32];
-    let ones = [255u8; 32];
-    show(b"nothing", &zeros[..0]);
-    show(b"one byte 00", &zeros[..1]);
-    show(b"32 bytes 00", &zeros);
-    show(b"32 bytes FF", &ones);
+    show(b"nothing", b"");
+    show(b"one byte 00", b"\x00");
+    show(b"32 bytes 00", &[0; 32]);
+    show(b"32 bytes FF", &[255; 32]);
 }
 
 // The bytes 00, 01, .., FF, four times: long enough for the fast engine's tables.
@@ -53,7 +51,7 @@ pub fn of_rising_bytes() {
 // The checksum of the block repeated: each turn goes on over one more copy.
 fn repeated(by: Engine, block: &[u8], times: usize) -> u64 {
     let mut sum = 0;
-    for k in 0..times {
+    for _ in 0..times {
         sum = asl::checksum_on_by(by, sum, block);
     }
     sum

@@ -35,8 +35,7 @@ fn fill(entries: &mut [u64], digests: &mut [u8], count: usize)
     requires entries_len { length entries.old ≡ entry_size * count }
     requires digests_len { length digests.old ≡ 2 * count }
 {
-    let mut k = 0;
-    while k < count {
+    for k in 0..count {
         let at = 9 * k;
         let start = 2 * k;
         entries[at] = 7;
@@ -45,7 +44,6 @@ fn fill(entries: &mut [u64], digests: &mut [u8], count: usize)
         entries[at + 6] = 1;
         digests[start] = (k / 256 % 256) as u8;
         digests[start + 1] = (k % 256) as u8;
-        k += 1;
     }
 }
 

@@ -1,5 +1,6 @@
 // Cases: each is run, and says in one line what came out. `rt ci` holds the lines to the file `stdout`, whose values come from
 // the publications of the checksum and from docs/SERVICES.md, "Cases", and not from a run of this program.
+// Lines are written by the kit's `io`: std's `println!` rests on two more functions of C than docs/TRUST.md names for this program.
 #![tactic(auto)]
 
 mod checksums;

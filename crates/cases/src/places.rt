@@ -27,8 +27,8 @@ fn write_case_l(name: &[u8], bloom: &[u8], out: &mut [u8]) {
 
 // The check of so many bytes from the first on, if there are so many.
 fn check_first(name: &[u8], file: &[u8], n: usize) {
-    if n <= file.len() {
-        said::checked(name, asl::check(&TABLE, &file[..n]));
+    if let Some(part) = file.get(..n) {
+        said::checked(name, asl::check(&TABLE, part));
     }
 }
 
@@ -45,10 +45,8 @@ pub fn of_lengths() {
 
 // Four bytes of the file changed, if they are there.
 fn change(file: &mut [u8], at: usize, v: u32) {
-    if 4 <= file.len() {
-        if at <= file.len() - 4 {
-            numbers::put_u32(file, at, v);
-        }
+    if 4 <= file.len() && at <= file.len() - 4 {
+        file[at..at + 4].copy_from_slice(&v.to_le_bytes());
     }
 }
 
@@ -68,7 +66,7 @@ fn seal(file: &mut [u8]) {
     if 24 <= file.len() {
         let end = file.len() - 24;
         let sum = asl::checksum(&file[..end]);
-        numbers::put_u64(file, end, sum);
+        file[end..end + 8].copy_from_slice(&sum.to_le_bytes());
     }
 }
 

@@ -1,5 +1,5 @@
 // What came out of a case, in one line.
-use asl::{Refusal, Verdict, Written};
+use asl::Refusal;
 
 fn refused(r: Refusal) {
     io::write_all(1, b": refused ");
@@ -9,25 +9,25 @@ fn refused(r: Refusal) {
     io::write_all(1, b"\n");
 }
 
-pub fn checked(name: &[u8], answer: Verdict) {
+pub fn checked(name: &[u8], answer: Result<(), Refusal>) {
     io::write_all(1, name);
     match answer {
-        Verdict::Accepted => {
+        Ok(()) => {
             io::write_all(1, b": accepted\n");
         }
-        Verdict::Refused(r) => {
+        Err(r) => {
             refused(r);
         }
     }
 }
 
-pub fn wrote(name: &[u8], answer: Written) {
+pub fn wrote(name: &[u8], answer: Result<u64, Refusal>) {
     io::write_all(1, name);
     match answer {
-        Written::Done(n) => {
+        Ok(n) => {
             io::write_all(1, b": written\n");
         }
-        Written::Refused(r) => {
+        Err(r) => {
             refused(r);
         }
     }

@@ -6,8 +6,7 @@ use mathlib.Core.Bool.{true}
 use mathlib.Core.Logic.Iff
 use mathlib.Core.Logic.{◌↔◌}
 use mathlib.Core.List.{List}
-use Rattle.answer.specs.declared.Verdict.TheVariants.{Accepted}
-use Rattle.answer.specs.Rules.{first_over}
+use Rattle.answer.specs.Rules.{first_over, accepted}
 use Rattle.answer.proofs.Order.{then-accepted, first-accepted}
 use Rattle.segment.specs.declared.header.Header.{Header}
 use Rattle.segment.specs.declared.shape.Shape.{Shape}
@@ -24,10 +23,10 @@ use Rattle.check_book.proofs.TablesVisibility.{visibility-book}
 
 -- a run of the records is accepted exactly when each of them meets the rules
 pub records-book : (sh : Shape) (pairs s : List ℕ) (h : Header) (n : ℕ)
-    → first_over n (record_verdict sh pairs s h) ≡ Accepted ↔ ((k : ℕ) → k < n → RecordMeets sh pairs s h (record_no sh s h k))
+    → first_over n (record_verdict sh pairs s h) ≡ accepted ↔ ((k : ℕ) → k < n → RecordMeets sh pairs s h (record_no sh s h k))
 records-book sh pairs s h n = simp (first-accepted, record-book) Iff.rfl
 
-pub segment-book : (sh : Shape) → Shaped sh → (pairs s : List ℕ) → segment_verdict sh pairs s ≡ Accepted ↔ Meets sh pairs s
+pub segment-book : (sh : Shape) → Shaped sh → (pairs s : List ℕ) → segment_verdict sh pairs s ≡ accepted ↔ Meets sh pairs s
 unfolding segment_verdict segment_rules
 segment-book sh w pairs s =
     simp (then-accepted, size-book, head-book, layout-book sh w, checksum-book, records-book, visibility-book, keys-book) (
@@ -50,5 +49,5 @@ pub under_table : (pairs s : List ℕ) → good_table pairs ≡ true → checked
 unfolding checked
 under_table pairs s g = rw ((table-book pairs).1 g)
 
-pub checked-iff : (pairs s : List ℕ) → good_table pairs ≡ true → checked pairs s ≡ Accepted ↔ Meets v3 pairs s
+pub checked-iff : (pairs s : List ℕ) → good_table pairs ≡ true → checked pairs s ≡ accepted ↔ Meets v3 pairs s
 checked-iff pairs s g = rw (under_table pairs s g) (segment-book v3 v3-shaped pairs s)

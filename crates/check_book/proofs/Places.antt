@@ -5,8 +5,7 @@ use mathlib.Core.Path.{◌≡◌}
 use mathlib.Core.List.{List}
 use native.Mathlib.Omega.{arith}
 use lib.ListN.{length}
-use Rattle.answer.specs.declared.Verdict.TheVariants.{Accepted}
-use Rattle.answer.specs.Rules.{◌then◌}
+use Rattle.answer.specs.Rules.{◌then◌, accepted}
 use Rattle.answer.proofs.Places.{Placed, placed-then, placed-after, placed_first, placed-rows}
 use Rattle.table.specs.Table.{table_verdict}
 use Rattle.segment.specs.declared.header.Header.{Header}
@@ -97,8 +96,8 @@ module _ {b : ℕ} (sh : Shape) (pairs s : List ℕ) (h : Header) (r : Record) (
   record-placed = placed-then marks-placed (placed-then digest-placed (placed-then extents-placed total-placed))
 
 -- a record of a segment that is sized and laid out begins inside it
-record-below : {b : ℕ} → file_limit ≤ b → (sh : Shape) → Shaped sh → (s : List ℕ) → size_verdict (length s) ≡ Accepted
-    → layout_verdict sh (header_of s) (length s) ≡ Accepted → (k : ℕ) → k < record_count (header_of s) → record_at sh (header_of s) k < b
+record-below : {b : ℕ} → file_limit ≤ b → (sh : Shape) → Shaped sh → (s : List ℕ) → size_verdict (length s) ≡ accepted
+    → layout_verdict sh (header_of s) (length s) ≡ accepted → (k : ℕ) → k < record_count (header_of s) → record_at sh (header_of s) k < b
 record-below l sh w s sized laid k i =
     let most = ((size-book s).0 sized).most in
     let here = record-inside (record { shaped = w; layout = (layout-book sh w s (header_of s)).0 laid; most = most }) k i in

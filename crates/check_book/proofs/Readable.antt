@@ -14,7 +14,7 @@ use native.Mathlib.Decide.{ℕ_discrete}
 use native.Mathlib.Nat.{mul-le-mul_left}
 use native.Mathlib.Omega.{arith}
 use lib.ListN.{length}
-use Rattle.answer.specs.declared.Verdict.TheVariants.{Accepted}
+use Rattle.answer.specs.Rules.{accepted}
 use Rattle.answer.proofs.Order.{then-accepted}
 use Rattle.table.specs.Table.{good_table, table_verdict}
 use Rattle.table.proofs.Pairs.{allowed-small}
@@ -106,10 +106,10 @@ readable sh w pairs s g m =
 pub read : (sh : Shape) (s : List ℕ) (h : Header) → h ≡ header_of s → Readable sh s (header_of s) → Readable sh s h
 read sh s h e v = subst (Readable sh s) (sym e) v
 
-pub under-readable : (sh : Shape) → Shaped sh → (pairs s : List ℕ) → good_table pairs ≡ true → segment_verdict sh pairs s ≡ Accepted → Readable sh s (header_of s)
+pub under-readable : (sh : Shape) → Shaped sh → (pairs s : List ℕ) → good_table pairs ≡ true → segment_verdict sh pairs s ≡ accepted → Readable sh s (header_of s)
 under-readable sh w pairs s g a = readable sh w pairs s g ((segment-book sh w pairs s).0 a)
 
-pub checked-readable : (pairs s : List ℕ) → checked pairs s ≡ Accepted → Readable v3 s (header_of s)
+pub checked-readable : (pairs s : List ℕ) → checked pairs s ≡ accepted → Readable v3 s (header_of s)
 unfolding checked
 checked-readable pairs s a =
     let parts = (then-accepted (table_verdict pairs) (segment_verdict v3 pairs s)).0 a in

@@ -10,6 +10,8 @@ use native.Mathlib.Decide.{ℕ_discrete}
 use native.Mathlib.Omega.{arith}
 use borrow.Author.Tests.{eq-eqb, ne_eqb}
 use lib.ListN.{length}
+use Rattle.std.specs.Prelude.{Err}
+use Rattle.answer.specs.Rules.{accepted}
 use Rattle.answer.specs.declared.Rule.TheVariants.{
   Size,
   Magic,
@@ -24,7 +26,6 @@ use Rattle.answer.specs.declared.Rule.TheVariants.{
   Table,
 }
 use Rattle.answer.specs.Answers.{refusal}
-use Rattle.answer.specs.declared.Verdict.TheVariants.{Accepted, Refused}
 use Rattle.lists.proofs.Tests.{tests}
 use Rattle.answer.proofs.Order.{rows, then-accepted}
 use Rattle.segment.specs.declared.header.Header.{Header}
@@ -40,45 +41,45 @@ use Rattle.check_book.proofs.OneRefusal.{Only, only-rows, broken}
 
 -- ---- 14
 
-pub table-book : (pairs : List ℕ) → table_verdict pairs ≡ Accepted ↔ good_table pairs ≡ true
+pub table-book : (pairs : List ℕ) → table_verdict pairs ≡ accepted ↔ good_table pairs ≡ true
 unfolding table_verdict
 table-book pairs = simp rows Iff.rfl
 
-pub table-broken : (pairs : List ℕ) → good_table pairs ≡ false → table_verdict pairs ≡ Refused (refusal Table 0)
+pub table-broken : (pairs : List ℕ) → good_table pairs ≡ false → table_verdict pairs ≡ Err (refusal Table 0)
 unfolding table_verdict
 table-broken pairs e = rw e
 
 -- ---- 1
 
-pub size-book : (s : List ℕ) → size_verdict (length s) ≡ Accepted ↔ SizeMeets s
+pub size-book : (s : List ℕ) → size_verdict (length s) ≡ accepted ↔ SizeMeets s
 unfolding size_verdict
 size-book s = simp rows (omega arith)
 
-pub size-broken : (s : List ℕ) → ¬ SizeMeets s → size_verdict (length s) ≡ Refused (refusal Size 0)
+pub size-broken : (s : List ℕ) → ¬ SizeMeets s → size_verdict (length s) ≡ Err (refusal Size 0)
 unfolding size_verdict
 size-broken s = broken (search only-rows) (size-book s)
 
 -- ---- 2, 3 and 4
 
 module _ (sh : Shape) (h : Header) where
-  pub head-book : head_verdict sh h ≡ Accepted ↔ (h.magic ≡ sh.magic) × (h.version ≡ sh.version) × HeaderMeets h
+  pub head-book : head_verdict sh h ≡ accepted ↔ (h.magic ≡ sh.magic) × (h.version ≡ sh.version) × HeaderMeets h
   unfolding head_verdict
   head-book = simp rows (omega arith)
 
-  pub magic-broken : ¬ (h.magic ≡ sh.magic) → head_verdict sh h ≡ Refused (refusal Magic 0)
+  pub magic-broken : ¬ (h.magic ≡ sh.magic) → head_verdict sh h ≡ Err (refusal Magic 0)
   unfolding head_verdict
   magic-broken n = simp tests
 
   module _ (m : h.magic ≡ sh.magic) where
-    pub version-broken : ¬ (h.version ≡ sh.version) → head_verdict sh h ≡ Refused (refusal Version 0)
+    pub version-broken : ¬ (h.version ≡ sh.version) → head_verdict sh h ≡ Err (refusal Version 0)
     unfolding head_verdict
     version-broken n = simp tests
 
     module _ (v : h.version ≡ sh.version) where
-      pub header-book : head_verdict sh h ≡ Accepted ↔ HeaderMeets h
+      pub header-book : head_verdict sh h ≡ accepted ↔ HeaderMeets h
       header-book = (λ e. (head-book.0 e).2, λ k. head-book.1 (m, v, k))
 
-      pub header-broken : ¬ HeaderMeets h → head_verdict sh h ≡ Refused (refusal HeaderWrong 0)
+      pub header-broken : ¬ HeaderMeets h → head_verdict sh h ≡ Err (refusal HeaderWrong 0)
       unfolding head_verdict
       header-broken = broken (simp (eq-eqb _ _ m, eq-eqb _ _ v) (search only-rows depth 9)) header-book
 
@@ -94,7 +95,7 @@ module _ (h : Header) where
       (λ (z : ¬ (bloom_size h ≡ 0)).
       rw (ne_eqb (bloom_size h) 0 z) (λ m. (m.some z, m.divides), λ (a : (bloom_offset h ≡ 112) × (bloom_size h % 8 ≡ 0)). record { none = λ e. absurd (z e); some = λ n. a.0; divides = a.1 }))
 
-  pub bloom-laid-book : bloom_laid h ≡ Accepted ↔ BloomLaid h
+  pub bloom-laid-book : bloom_laid h ≡ accepted ↔ BloomLaid h
   unfolding bloom_laid
   bloom-laid-book = simp rows (bloom-laid-starts.1, bloom-laid-starts.0)
 
@@ -102,7 +103,7 @@ module _ (h : Header) where
   unfolding bloom_laid
   bloom-laid-only = search only-rows
 
-  pub records-laid-book : records_laid h ≡ Accepted ↔ RecordsLaid h
+  pub records-laid-book : records_laid h ≡ accepted ↔ RecordsLaid h
   unfolding records_laid
   records-laid-book = simp rows (omega arith)
 
@@ -110,7 +111,7 @@ module _ (h : Header) where
   unfolding records_laid
   records-laid-only = search only-rows
 
-  pub digests-laid-book : (sh : Shape) → digests_laid sh h ≡ Accepted ↔ DigestsLaid sh h
+  pub digests-laid-book : (sh : Shape) → digests_laid sh h ≡ accepted ↔ DigestsLaid sh h
   unfolding digests_laid
   digests-laid-book sh = simp rows (omega arith)
 
@@ -118,7 +119,7 @@ module _ (h : Header) where
   unfolding digests_laid
   digests-laid-only sh = search only-rows
 
-  pub extents-laid-book : extents_laid h ≡ Accepted ↔ ExtentsLaid h
+  pub extents-laid-book : extents_laid h ≡ accepted ↔ ExtentsLaid h
   unfolding extents_laid
   extents-laid-book = simp rows Iff.rfl
 
@@ -126,7 +127,7 @@ module _ (h : Header) where
   unfolding extents_laid
   extents-laid-only = search only-rows
 
-  pub length-laid-book : (n : ℕ) → length_laid h n ≡ Accepted ↔ LengthLaid n h
+  pub length-laid-book : (n : ℕ) → length_laid h n ≡ accepted ↔ LengthLaid n h
   unfolding length_laid
   length-laid-book n = simp rows Iff.rfl
 
@@ -136,27 +137,27 @@ module _ (h : Header) where
 
 -- each is given where the rules before it are kept
 module _ (sh : Shape) (n : ℕ) (h : Header) where
-  pub bloom-laid-broken : ¬ BloomLaid h → layout_verdict sh h n ≡ Refused (refusal LayoutBloom 48)
+  pub bloom-laid-broken : ¬ BloomLaid h → layout_verdict sh h n ≡ Err (refusal LayoutBloom 48)
   unfolding layout_verdict
   bloom-laid-broken c = rw (broken (bloom-laid-only h) (bloom-laid-book h) c)
 
   module _ (b : BloomLaid h) where
-    pub records-laid-broken : ¬ RecordsLaid h → layout_verdict sh h n ≡ Refused (refusal LayoutRecords 32)
+    pub records-laid-broken : ¬ RecordsLaid h → layout_verdict sh h n ≡ Err (refusal LayoutRecords 32)
     unfolding layout_verdict
     records-laid-broken c = rw ((bloom-laid-book h).1 b, broken (records-laid-only h) (records-laid-book h) c)
 
     module _ (r : RecordsLaid h) where
-      pub digests-laid-broken : ¬ DigestsLaid sh h → layout_verdict sh h n ≡ Refused (refusal LayoutDigests 64)
+      pub digests-laid-broken : ¬ DigestsLaid sh h → layout_verdict sh h n ≡ Err (refusal LayoutDigests 64)
       unfolding layout_verdict
       digests-laid-broken c = rw ((bloom-laid-book h).1 b, (records-laid-book h).1 r, broken (digests-laid-only h sh) (digests-laid-book h sh) c)
 
       module _ (d : DigestsLaid sh h) where
-        pub extents-laid-broken : ¬ ExtentsLaid h → layout_verdict sh h n ≡ Refused (refusal LayoutExtents 80)
+        pub extents-laid-broken : ¬ ExtentsLaid h → layout_verdict sh h n ≡ Err (refusal LayoutExtents 80)
         unfolding layout_verdict
         extents-laid-broken c =
             rw ((bloom-laid-book h).1 b, (records-laid-book h).1 r, (digests-laid-book h sh).1 d, broken (extents-laid-only h) (extents-laid-book h) c)
 
-        pub length-laid-broken : ExtentsLaid h → ¬ LengthLaid n h → layout_verdict sh h n ≡ Refused (refusal LayoutLength 88)
+        pub length-laid-broken : ExtentsLaid h → ¬ LengthLaid n h → layout_verdict sh h n ≡ Err (refusal LayoutLength 88)
         unfolding layout_verdict
         length-laid-broken x c = rw (
           (bloom-laid-book h).1 b,
@@ -166,7 +167,7 @@ module _ (sh : Shape) (n : ℕ) (h : Header) where
           broken (length-laid-only h n) (length-laid-book h n) c,
         )
 
-        pub all_laid : ExtentsLaid h → LengthLaid n h → layout_verdict sh h n ≡ Accepted
+        pub all_laid : ExtentsLaid h → LengthLaid n h → layout_verdict sh h n ≡ accepted
         unfolding layout_verdict
         all_laid x l =
             rw ((bloom-laid-book h).1 b, (records-laid-book h).1 r, (digests-laid-book h sh).1 d, (extents-laid-book h).1 x, (length-laid-book h n).1 l)
@@ -199,7 +200,7 @@ module _ (sh : Shape) (w : Shaped sh) (s : List ℕ) (h : Header) where
     ),
   )
 
-  pub layout-book : layout_verdict sh h (length s) ≡ Accepted ↔ LayoutMeets sh s h
+  pub layout-book : layout_verdict sh h (length s) ≡ accepted ↔ LayoutMeets sh s h
   unfolding layout_verdict
   layout-book =
       simp (then-accepted, bloom-laid-book, records-laid-book, digests-laid-book, extents-laid-book, length-laid-book)
@@ -207,10 +208,10 @@ module _ (sh : Shape) (w : Shaped sh) (s : List ℕ) (h : Header) where
 
 -- ---- 6
 
-pub checksum-book : (s : List ℕ) → checksum_verdict s ≡ Accepted ↔ ChecksumMeets s
+pub checksum-book : (s : List ℕ) → checksum_verdict s ≡ accepted ↔ ChecksumMeets s
 unfolding checksum_verdict
 checksum-book s = simp rows Iff.rfl
 
-pub checksum-broken : (s : List ℕ) → ¬ ChecksumMeets s → checksum_verdict s ≡ Refused (refusal Checksum 0)
+pub checksum-broken : (s : List ℕ) → ¬ ChecksumMeets s → checksum_verdict s ≡ Err (refusal Checksum 0)
 unfolding checksum_verdict
 checksum-broken s = broken (search only-rows) (checksum-book s)

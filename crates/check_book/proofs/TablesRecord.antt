@@ -11,10 +11,10 @@ use native.Mathlib.Decide.{ℕ_discrete}
 use native.Mathlib.Nat.{not-suc-le-zero}
 use native.Mathlib.Omega.{arith}
 use borrow.Author.Tests.{eq-eqb, ne_eqb}
+use Rattle.std.specs.Prelude.{Err}
+use Rattle.answer.specs.Rules.{Verdict, accepted}
 use Rattle.answer.specs.declared.Rule.TheVariants.{Record as RecordWrong, Digest, Extents, Total}
 use Rattle.answer.specs.Answers.{refusal}
-use Rattle.answer.specs.declared.Verdict.{Verdict}
-use Rattle.answer.specs.declared.Verdict.TheVariants.{Accepted, Refused}
 use Rattle.lists.proofs.Tests.{and-iff, or-iff, leb-iff}
 use Rattle.answer.proofs.Order.{then-accepted, rows}
 use Rattle.segment.specs.declared.header.Header.{Header}
@@ -40,7 +40,7 @@ use Rattle.check_book.proofs.OneRefusal.{only-rows, broken}
 -- ---- 7
 
 module _ (h : Header) (r : Record) (k : ℕ) where
-  pub marks-book : marks_verdict h r k ≡ Accepted ↔ MarksMeet h r
+  pub marks-book : marks_verdict h r k ≡ accepted ↔ MarksMeet h r
   unfolding marks_verdict
   marks-book =
       simp (or-iff, rows) (
@@ -56,46 +56,46 @@ module _ (h : Header) (r : Record) (k : ℕ) where
         λ m. (m.reserved, (m.reserved_last, (m.flags, (m.visibility, (m.imported, (λ n. m.source (omega arith), m.domain)))))),
       )
 
-  pub marks-refuses : ¬ MarksMeet h r → marks_verdict h r k ≡ Refused (refusal RecordWrong k)
+  pub marks-refuses : ¬ MarksMeet h r → marks_verdict h r k ≡ Err (refusal RecordWrong k)
   unfolding marks_verdict
   marks-refuses = broken (search only-rows depth 9) marks-book
 
 -- ---- 8
 
 module _ (pairs : List ℕ) (h : Header) (r : Record) (k : ℕ) where
-  pub digest-book : digest_verdict pairs h r k ≡ Accepted ↔ DigestMeets pairs h r
+  pub digest-book : digest_verdict pairs h r k ≡ accepted ↔ DigestMeets pairs h r
   unfolding digest_verdict
   digest-book = simp rows (λ a. search, λ m. search)
 
-  pub digest-refuses : ¬ DigestMeets pairs h r → digest_verdict pairs h r k ≡ Refused (refusal Digest k)
+  pub digest-refuses : ¬ DigestMeets pairs h r → digest_verdict pairs h r k ≡ Err (refusal Digest k)
   unfolding digest_verdict
   digest-refuses = broken (search only-rows) digest-book
 
 -- ---- 9
 
 -- the one rule for a gone record, the other for any other
-by-gone : (r : Record) {v w : Verdict} {G L : Type 0} → v ≡ Accepted ↔ G → w ≡ Accepted ↔ L
-    → cond (is_gone r) v w ≡ Accepted ↔ (r.flags ≡ 1 → G) × (¬ (r.flags ≡ 1) → L)
+by-gone : (r : Record) {v w : Verdict} {G L : Type 0} → v ≡ accepted ↔ G → w ≡ accepted ↔ L
+    → cond (is_gone r) v w ≡ accepted ↔ (r.flags ≡ 1 → G) × (¬ (r.flags ≡ 1) → L)
 by-gone r e f =
     by_cases (ℕ_discrete r.flags 1)
     (λ (g : r.flags ≡ 1). rw (eq-eqb r.flags 1 g) (λ a. (λ _. e.0 a, λ n. absurd (n g)), λ m. e.1 (m.0 g)))
     (λ (g : ¬ (r.flags ≡ 1)). rw (ne_eqb r.flags 1 g) (λ a. (λ y. absurd (g y), λ _. f.0 a), λ m. f.1 (m.1 g)))
 
-gone-book : (r : Record) (k : ℕ) → gone_extents r k ≡ Accepted ↔ GoneMeets r
+gone-book : (r : Record) (k : ℕ) → gone_extents r k ≡ accepted ↔ GoneMeets r
 unfolding gone_extents
 gone-book r k = simp rows (omega arith)
 
-live-book : (h : Header) (r : Record) (k : ℕ) → live_extents h r k ≡ Accepted ↔ LiveMeets h r
+live-book : (h : Header) (r : Record) (k : ℕ) → live_extents h r k ≡ accepted ↔ LiveMeets h r
 unfolding live_extents
 live-book h r k = simp rows (omega arith)
 
 module _ (h : Header) (r : Record) (k : ℕ) where
-  pub extents-book : extents_verdict h r k ≡ Accepted ↔ ExtentsMeet h r
+  pub extents-book : extents_verdict h r k ≡ accepted ↔ ExtentsMeet h r
   unfolding extents_verdict
   extents-book =
       Iff.trans (by-gone r (gone-book r k) (live-book h r k)) (λ a. record { gone = a.0; live = a.1 }, λ m. (m.gone, m.live))
 
-  pub extents-refuses : ¬ ExtentsMeet h r → extents_verdict h r k ≡ Refused (refusal Extents k)
+  pub extents-refuses : ¬ ExtentsMeet h r → extents_verdict h r k ≡ Err (refusal Extents k)
   unfolding extents_verdict gone_extents live_extents
   extents-refuses = broken (search only-rows depth 7) extents-book
 
@@ -129,20 +129,20 @@ fits_iff s at zero = (λ e j l. absurd (not-suc-le-zero l), λ f. refl)
 fits_iff s at (suc n) = simp (and-iff, leb-iff, fits_iff s (at + 16) n) (inside-iff s at n)
 
 module _ (sh : Shape) (s : List ℕ) (r : Record) (k : ℕ) where
-  sum-book : live_total sh (extents_in s r) r.total_length k ≡ Accepted ↔ SumMeets sh s r
+  sum-book : live_total sh (extents_in s r) r.total_length k ≡ accepted ↔ SumMeets sh s r
   unfolding live_total
   sum-book =
       simp (rows, fits_iff s r.extents_offset.0 r.extent_count)
       (λ a. record { fits = a.0; sum = a.1.1; total = omega arith }, λ m. (m.fits, (omega arith, m.sum)))
 
-  pub total-book : total_verdict sh s r k ≡ Accepted ↔ TotalMeets sh s r
+  pub total-book : total_verdict sh s r k ≡ accepted ↔ TotalMeets sh s r
   unfolding total_verdict
   total-book = Iff.trans (by-gone r (simp rows Iff.rfl) sum-book) (λ a. record { gone = a.0; live = a.1 }, λ m. (m.gone, m.live))
 
 -- ---- one record
 
 pub record-book : (sh : Shape) (pairs s : List ℕ) (h : Header) (k : ℕ)
-    → record_verdict sh pairs s h k ≡ Accepted ↔ RecordMeets sh pairs s h (record_no sh s h k)
+    → record_verdict sh pairs s h k ≡ accepted ↔ RecordMeets sh pairs s h (record_no sh s h k)
 unfolding record_verdict record_rules
 record-book sh pairs s h k =
     simp (then-accepted, marks-book, digest-book, extents-book, total-book) (
@@ -152,22 +152,22 @@ record-book sh pairs s h k =
 
 -- which of them is the first that is broken
 module _ (sh : Shape) (pairs s : List ℕ) (h : Header) (r : Record) (k : ℕ) where
-  pub marks-broken : ¬ MarksMeet h r → record_rules sh pairs s h r k ≡ Refused (refusal RecordWrong k)
+  pub marks-broken : ¬ MarksMeet h r → record_rules sh pairs s h r k ≡ Err (refusal RecordWrong k)
   unfolding record_rules
   marks-broken n = rw (marks-refuses h r k n)
 
   module _ (m : MarksMeet h r) where
-    pub digest-broken : ¬ DigestMeets pairs h r → record_rules sh pairs s h r k ≡ Refused (refusal Digest k)
+    pub digest-broken : ¬ DigestMeets pairs h r → record_rules sh pairs s h r k ≡ Err (refusal Digest k)
     unfolding record_rules
     digest-broken n = rw ((marks-book h r k).1 m, digest-refuses pairs h r k n)
 
     module _ (d : DigestMeets pairs h r) where
-      pub extents-broken : ¬ ExtentsMeet h r → record_rules sh pairs s h r k ≡ Refused (refusal Extents k)
+      pub extents-broken : ¬ ExtentsMeet h r → record_rules sh pairs s h r k ≡ Err (refusal Extents k)
       unfolding record_rules
       extents-broken n = rw ((marks-book h r k).1 m, (digest-book pairs h r k).1 d, extents-refuses h r k n)
 
-      pub total-broken : ExtentsMeet h r → ¬ TotalMeets sh s r → record_rules sh pairs s h r k ≡ Refused (refusal Total k)
+      pub total-broken : ExtentsMeet h r → ¬ TotalMeets sh s r → record_rules sh pairs s h r k ≡ Err (refusal Total k)
       unfolding record_rules total_verdict live_total
       total-broken x n =
-          let e : total_verdict sh s r k ≡ Refused (refusal Total k) = broken (search only-rows) (total-book sh s r k) n in
+          let e : total_verdict sh s r k ≡ Err (refusal Total k) = broken (search only-rows) (total-book sh s r k) n in
           rw ((marks-book h r k).1 m, (digest-book pairs h r k).1 d, (extents-book h r k).1 x, e)

@@ -7,9 +7,10 @@ use mathlib.Core.List.{List}
 use native.Mathlib.Nat.{not-suc-le-zero, eq-or-lt_of_le, le_of_suc-le-suc}
 use native.Mathlib.Decide.{dec_le, ℕ_discrete}
 use native.Mathlib.Omega.{arith}
+use Rattle.std.specs.Prelude.{Err}
+use Rattle.answer.specs.Rules.{accepted}
 use Rattle.answer.specs.declared.Rule.TheVariants.{Visibility}
 use Rattle.answer.specs.Answers.{refusal}
-use Rattle.answer.specs.declared.Verdict.TheVariants.{Accepted, Refused}
 use Rattle.answer.proofs.Order.{rows}
 use Rattle.segment.specs.declared.header.Header.{Header}
 use Rattle.segment.specs.declared.shape.Shape.{Shape}
@@ -72,10 +73,10 @@ module _ (sh : Shape) (s : List ℕ) (h : Header) where
       (λ (z : record_count h ≡ 0). m.none z ∙ sym (largest-none (record_count h) (visibility_no sh s h) z))
       (λ (z : ¬ (record_count h ≡ 0)). shown-largest m (omega arith))
 
-  pub visibility-book : visibility_verdict sh s h ≡ Accepted ↔ VisibilityMeets sh s h
+  pub visibility-book : visibility_verdict sh s h ≡ accepted ↔ VisibilityMeets sh s h
   unfolding visibility_verdict largest
   visibility-book = simp rows (largest-meets, meets-largest)
 
-  pub visibility-broken : ¬ VisibilityMeets sh s h → visibility_verdict sh s h ≡ Refused (refusal Visibility 0)
+  pub visibility-broken : ¬ VisibilityMeets sh s h → visibility_verdict sh s h ≡ Err (refusal Visibility 0)
   unfolding visibility_verdict
   visibility-broken = broken (search only-rows) visibility-book

@@ -7,12 +7,11 @@ use mathlib.Core.List.{List, ◌∷◌}
 use native.Mathlib.Omega.{arith}
 use borrow.Author.Tests.{ltb-true, ltb-false}
 use lib.Dec.{ltb}
+use Rattle.std.specs.Prelude.{Err, None, Some}
+use Rattle.answer.specs.Rules.{accepted}
 use Rattle.numbers.specs.Numbers.{num_at}
-use Rattle.answer.specs.declared.Refusal.{Refusal}
 use Rattle.answer.specs.declared.Rule.TheVariants.{Extents, Total}
 use Rattle.answer.specs.Answers.{refusal}
-use Rattle.answer.specs.declared.Verdict.{Verdict}
-use Rattle.answer.specs.declared.Verdict.TheVariants.{Accepted, Refused}
 use Rattle.lists.proofs.Tests.{tests, by-test}
 use Rattle.segment.specs.declared.header.Header.{Header}
 use Rattle.segment.specs.declared.record.Record.{Record}
@@ -22,45 +21,44 @@ use Rattle.segment.specs.Format.{block_end, extents_offset, extent_count, extent
 use Rattle.segment.specs.Check.{all_fit, sum_lengths, extents_verdict, live_total, total_verdict}
 use Rattle.segment.specs.Meets.{ExtentsMeet}
 use Rattle.check_book.proofs.TablesRecord.{extents-book, extents-refuses}
-use Rattle.check_extents.specs.declared.Sum.TheVariants.{Of, Past}
-use Rattle.check_extents.specs.ExtentRules.{summed, slices_rules}
+use Rattle.check_extents.specs.ExtentRules.{summed}
 
 -- ---- 9
 
 module _ (h : Header) (r : Record) (k : ℕ) where
-  extents-wrong : ¬ ExtentsMeet h r → Refused (refusal Extents k) ≡ extents_verdict h r k
+  extents-wrong : ¬ ExtentsMeet h r → Err (refusal Extents k) ≡ extents_verdict h r k
   extents-wrong n = sym (extents-refuses h r k n)
 
   module _ (g : r.flags ≡ 1) where
-    pub gone-placed : (r.extents_offset.0 ≡ 0 → ⊥) → Refused (refusal Extents k) ≡ extents_verdict h r k
+    pub gone-placed : (r.extents_offset.0 ≡ 0 → ⊥) → Err (refusal Extents k) ≡ extents_verdict h r k
     gone-placed n = extents-wrong (λ m. n (m.gone g).offset)
 
-    pub gone-some : (r.extent_count ≡ 0 → ⊥) → Refused (refusal Extents k) ≡ extents_verdict h r k
+    pub gone-some : (r.extent_count ≡ 0 → ⊥) → Err (refusal Extents k) ≡ extents_verdict h r k
     gone-some n = extents-wrong (λ m. n (m.gone g).count)
 
-    pub gone-accepted : r.extents_offset.0 ≡ 0 → r.extent_count ≡ 0 → Accepted ≡ extents_verdict h r k
+    pub gone-accepted : r.extents_offset.0 ≡ 0 → r.extent_count ≡ 0 → accepted ≡ extents_verdict h r k
     gone-accepted a b = sym ((extents-book h r k).1 (record { gone = λ _. record { offset = a; count = b }; live = λ n. absurd (n g) }))
 
   module _ (g : r.flags ≡ 1 → ⊥) where
-    pub live-none : r.extent_count < 1 → Refused (refusal Extents k) ≡ extents_verdict h r k
+    pub live-none : r.extent_count < 1 → Err (refusal Extents k) ≡ extents_verdict h r k
     live-none l = extents-wrong (λ m. omega (arith, (m.live g).some))
 
-    pub live-before : r.extents_offset.0 < extents_offset h → Refused (refusal Extents k) ≡ extents_verdict h r k
+    pub live-before : r.extents_offset.0 < extents_offset h → Err (refusal Extents k) ≡ extents_verdict h r k
     live-before l = extents-wrong (λ m. omega (arith, (m.live g).starts))
 
-    pub live-between : ((r.extents_offset.0 - extents_offset h) % 16 ≡ 0 → ⊥) → Refused (refusal Extents k) ≡ extents_verdict h r k
+    pub live-between : ((r.extents_offset.0 - extents_offset h) % 16 ≡ 0 → ⊥) → Err (refusal Extents k) ≡ extents_verdict h r k
     live-between n = extents-wrong (λ m. n (m.live g).aligned)
 
-    pub live-after : extents_offset h + 16 * extent_count h < r.extents_offset.0 → Refused (refusal Extents k) ≡ extents_verdict h r k
+    pub live-after : extents_offset h + 16 * extent_count h < r.extents_offset.0 → Err (refusal Extents k) ≡ extents_verdict h r k
     live-after l = extents-wrong (λ m. omega (arith, (m.live g).ends))
 
     module _ (d : r.extents_offset.0 ≤ extents_offset h + 16 * extent_count h) where
       pub live-past : extents_offset h + 16 * extent_count h - r.extents_offset.0 < 16 * r.extent_count
-          → Refused (refusal Extents k) ≡ extents_verdict h r k
+          → Err (refusal Extents k) ≡ extents_verdict h r k
       live-past l = extents-wrong (λ m. omega (arith, (m.live g).ends))
 
       pub live-accepted : 1 ≤ r.extent_count → extents_offset h ≤ r.extents_offset.0 → (r.extents_offset.0 - extents_offset h) % 16 ≡ 0
-          → 16 * r.extent_count ≤ extents_offset h + 16 * extent_count h - r.extents_offset.0 → Accepted ≡ extents_verdict h r k
+          → 16 * r.extent_count ≤ extents_offset h + 16 * extent_count h - r.extents_offset.0 → accepted ≡ extents_verdict h r k
       live-accepted a b c l =
           sym ((extents-book h r k).1 (record { gone = λ y. absurd (g y); live = λ _. record { some = a; starts = b; aligned = c; ends = omega arith } }))
 
@@ -104,7 +102,7 @@ module _ (s : List ℕ) (at count i sum offset size : ℕ) (v : Summing s at cou
   rest : List Extent
   rest = extents_at s (at + 16 * (i + 1)) (count - (i + 1))
 
-  pub sum_past : ltb block_end (offset + size) ≡ true → Past ≡ summed (extents_at s at count)
+  pub sum_past : ltb block_end (offset + size) ≡ true → None ≡ summed (extents_at s at count)
   unfolding summed all_fit extent_of
   sum_past t =
       let l : 4294967296 < offset + size = ltb-true 4294967296 (offset + size) t in
@@ -123,7 +121,7 @@ module _ (s : List ℕ) (at count i sum offset size : ℕ) (v : Summing s at cou
         small = omega (arith, v.small);
       }
 
-pub sum_done : (s : List ℕ) (at count i sum : ℕ) → Summing s at count i sum → count ≤ i → Of sum ≡ summed (extents_at s at count)
+pub sum_done : (s : List ℕ) (at count i sum : ℕ) → Summing s at count i sum → count ≤ i → Some sum ≡ summed (extents_at s at count)
 unfolding summed all_fit sum_lengths extents_at
 sum_done s at count i sum v h =
     let e : count - i ≡ 0 = omega arith in
@@ -133,55 +131,44 @@ sum_done s at count i sum v h =
 
 -- ---- 10
 
-not-fit : (es : List Extent) → Past ≡ summed es → all_fit es ≡ false
+not-fit : (es : List Extent) → None ≡ summed es → all_fit es ≡ false
 unfolding summed
-not-fit es e = by-test (all_fit es) (λ f. let q : Past ≡ Of (sum_lengths es) = e ∙ rw f in cc) (λ f. f)
+not-fit es e = by-test (all_fit es) (λ f. let q : None ≡ Some (sum_lengths es) = e ∙ rw f in cc) (λ f. f)
 
-all-fit : (es : List Extent) (sum : ℕ) → Of sum ≡ summed es → all_fit es ≡ true
+all-fit : (es : List Extent) (sum : ℕ) → Some sum ≡ summed es → all_fit es ≡ true
 unfolding summed
-all-fit es sum e = by-test (all_fit es) (λ f. f) (λ f. let q : Of sum ≡ Past = e ∙ rw f in cc)
+all-fit es sum e = by-test (all_fit es) (λ f. f) (λ f. let q : Some sum ≡ None = e ∙ rw f in cc)
 
-sum_is : (es : List Extent) (sum : ℕ) → Of sum ≡ summed es → sum_lengths es ≡ sum
+sum_is : (es : List Extent) (sum : ℕ) → Some sum ≡ summed es → sum_lengths es ≡ sum
 unfolding summed
 sum_is es sum e =
-    let q : Of sum ≡ Of (sum_lengths es) = e ∙ rw (all-fit es sum e) in
+    let q : Some sum ≡ Some (sum_lengths es) = e ∙ rw (all-fit es sum e) in
     cc
 
 module _ (sh : Shape) (s : List ℕ) (r : Record) (k : ℕ) where
   module _ (g : r.flags ≡ 1) where
-    pub gone-total : (r.total_length ≡ 0 → ⊥) → Refused (refusal Total k) ≡ total_verdict sh s r k
+    pub gone-total : (r.total_length ≡ 0 → ⊥) → Err (refusal Total k) ≡ total_verdict sh s r k
     unfolding total_verdict
     gone-total a = simp tests
 
-    pub gone-none : r.total_length ≡ 0 → Accepted ≡ total_verdict sh s r k
+    pub gone-none : r.total_length ≡ 0 → accepted ≡ total_verdict sh s r k
     unfolding total_verdict
     gone-none a = simp tests
 
   module _ (g : r.flags ≡ 1 → ⊥) where
-    pub total-past : Past ≡ summed (extents_in s r) → Refused (refusal Total k) ≡ total_verdict sh s r k
+    pub total-past : None ≡ summed (extents_in s r) → Err (refusal Total k) ≡ total_verdict sh s r k
     unfolding total_verdict live_total
     total-past e = rw (not-fit (extents_in s r) e) (simp tests)
 
-    module _ (sum : ℕ) (e : Of sum ≡ summed (extents_in s r)) where
-      pub total-great : sh.total_limit < sum → Refused (refusal Total k) ≡ total_verdict sh s r k
+    module _ (sum : ℕ) (e : Some sum ≡ summed (extents_in s r)) where
+      pub total-great : sh.total_limit < sum → Err (refusal Total k) ≡ total_verdict sh s r k
       unfolding total_verdict live_total
       total-great a = rw (all-fit (extents_in s r) sum e, sum_is (extents_in s r) sum e) (simp tests)
 
-      pub total-differs : sum ≤ sh.total_limit → (sum ≡ r.total_length → ⊥) → Refused (refusal Total k) ≡ total_verdict sh s r k
+      pub total-differs : sum ≤ sh.total_limit → (sum ≡ r.total_length → ⊥) → Err (refusal Total k) ≡ total_verdict sh s r k
       unfolding total_verdict live_total
       total-differs a b = rw (all-fit (extents_in s r) sum e, sum_is (extents_in s r) sum e) (simp tests)
 
-      pub total-accepted : sum ≤ sh.total_limit → sum ≡ r.total_length → Accepted ≡ total_verdict sh s r k
+      pub total-accepted : sum ≤ sh.total_limit → sum ≡ r.total_length → accepted ≡ total_verdict sh s r k
       unfolding total_verdict live_total
       total-accepted a b = rw (all-fit (extents_in s r) sum e, sum_is (extents_in s r) sum e) (simp tests)
-
--- ---- 9, and then 10
-
-module _ (sh : Shape) (s : List ℕ) (h : Header) (r : Record) (k : ℕ) where
-  pub extents-stop : (x : Refusal) → extents_verdict h r k ≡ Refused x → Refused x ≡ slices_rules sh s h r k
-  unfolding slices_rules
-  extents-stop x e = rw e
-
-  pub extents-pass : {v : Verdict} → extents_verdict h r k ≡ Accepted → v ≡ total_verdict sh s r k → v ≡ slices_rules sh s h r k
-  unfolding slices_rules
-  extents-pass e f = rw e f

@@ -2,26 +2,19 @@
 #![tactic(auto)]
 
 ghost use Rattle.std.specs.Prelude.{◌≡◌, ◌+◌, ◌*◌, ◌<◌, ◌≤◌, ltb, length};
-ghost use Rattle.answer.specs.declared.Verdict.TheVariants.{Accepted};
+ghost use Rattle.answer.specs.Rules.{accepted};
 ghost use Rattle.segment.specs.Format.{extent_size, block_end, extents_at};
 ghost use Rattle.segment.specs.Check.{extents_verdict, total_verdict};
 ghost use Rattle.check_book.specs.Readable.{Inside};
 ghost use Rattle.check_extents.specs.ExtentRules.{summed, slices_rules};
 
-use answer::{Refusal, Rule, Verdict};
+use answer::{Refusal, Rule};
 use field_record::extent;
 use offset::{BlockOffset, FileOffset};
 use segment::extent::Extent;
 use segment::header::Header;
 use segment::record::Record;
 use segment::shape::Shape;
-
-// The lengths of some extents added up, or that one of them passes the end of its block.
-#[derive(Clone, Copy)]
-pub enum Sum {
-    Of(u64),
-    Past,
-}
 
 // Whether a slice passes the end of its block.
 fn passes_block(offset: BlockOffset, size: u32) -> bool
@@ -30,25 +23,24 @@ fn passes_block(offset: BlockOffset, size: u32) -> bool
     4294967296 < offset.0 as u64 + size as u64
 }
 
-fn sum_extents(seg: &[u8], at: FileOffset, count: u64) -> Sum
+// The lengths of some extents added up, or none where one of them passes the end of its block.
+fn sum_extents(seg: &[u8], at: FileOffset, count: u64) -> Option<u64>
     requires { (at.0 + extent_size * count ≤ length seg.now) × (count < 4294967296) }
     ensures { result ≡ summed (extents_at seg.now at.0 count) }
 {
     let mut sum: u64 = 0;
-    let mut i = 0;
-    while i < count {
+    for i in 0..count {
         let here = FileOffset(at.0 + Extent::LONG * i);
-        let size = extent::length(seg, here);
-        if passes_block(extent::offset(seg, here), size) {
-            return Sum::Past;
+        let size = extent::LENGTH.read(seg, here);
+        if passes_block(extent::OFFSET.read(seg, here), size) {
+            return None;
         }
         sum += size as u64;
-        i += 1;
     }
-    Sum::Of(sum)
+    Some(sum)
 }
 
-fn check_extents(seg: &[u8], h: Header, r: Record, place: u64) -> Verdict
+fn check_extents(seg: &[u8], h: Header, r: Record, place: u64) -> Result<(), Refusal>
     requires { Inside seg.now h }
     ensures { result ≡ extents_verdict h r place }
 {
@@ -56,70 +48,62 @@ fn check_extents(seg: &[u8], h: Header, r: Record, place: u64) -> Verdict
     let count = r.extent_count as u64;
     if r.flags == 1 {
         if at != 0 {
-            return Verdict::Refused(Refusal(Rule::Extents, place));
+            return Err(Refusal(Rule::Extents, place));
         }
         if count != 0 {
-            return Verdict::Refused(Refusal(Rule::Extents, place));
+            return Err(Refusal(Rule::Extents, place));
         }
-        return Verdict::Accepted;
+        return Ok(());
     }
     if count < 1 {
-        return Verdict::Refused(Refusal(Rule::Extents, place));
+        return Err(Refusal(Rule::Extents, place));
     }
     let start = h.extents_offset.0;
     if at < start {
-        return Verdict::Refused(Refusal(Rule::Extents, place));
+        return Err(Refusal(Rule::Extents, place));
     }
     if (at - start) % Extent::LONG != 0 {
-        return Verdict::Refused(Refusal(Rule::Extents, place));
+        return Err(Refusal(Rule::Extents, place));
     }
     let end = start + Extent::LONG * h.extent_count;
     if end < at {
-        return Verdict::Refused(Refusal(Rule::Extents, place));
+        return Err(Refusal(Rule::Extents, place));
     }
     if end - at < Extent::LONG * count {
-        return Verdict::Refused(Refusal(Rule::Extents, place));
+        return Err(Refusal(Rule::Extents, place));
     }
-    Verdict::Accepted
+    Ok(())
 }
 
-fn check_total(sh: Shape, seg: &[u8], h: Header, r: Record, place: u64) -> Verdict
+fn check_total(sh: Shape, seg: &[u8], h: Header, r: Record, place: u64) -> Result<(), Refusal>
     requires inside { Inside seg.now h }
-    requires place_value { extents_verdict h r place ≡ Accepted }
+    requires place_value { extents_verdict h r place ≡ accepted }
     ensures { result ≡ total_verdict sh seg.now r place }
 {
     if r.flags == 1 {
         if r.total_length != 0 {
-            return Verdict::Refused(Refusal(Rule::Total, place));
+            return Err(Refusal(Rule::Total, place));
         }
-        return Verdict::Accepted;
+        return Ok(());
     }
-    match sum_extents(seg, r.extents_offset, r.extent_count as u64) {
-        Sum::Past => {
-            return Verdict::Refused(Refusal(Rule::Total, place));
-        }
-        Sum::Of(sum) => {
-            if sh.total_limit < sum {
-                return Verdict::Refused(Refusal(Rule::Total, place));
-            }
-            if sum != r.total_length {
-                return Verdict::Refused(Refusal(Rule::Total, place));
-            }
-        }
+    let Some(sum) = sum_extents(seg, r.extents_offset, r.extent_count as u64) else {
+        return Err(Refusal(Rule::Total, place));
+    };
+    if sh.total_limit < sum {
+        return Err(Refusal(Rule::Total, place));
     }
-    Verdict::Accepted
+    if sum != r.total_length {
+        return Err(Refusal(Rule::Total, place));
+    }
+    Ok(())
 }
 
 // 9 and 10.
-pub fn check_slices(sh: Shape, seg: &[u8], h: Header, r: Record, place: u64) -> Verdict
+#[tactic(auto, unfolding(crate::specs::ExtentRules::slices_rules))]
+pub fn check_slices(sh: Shape, seg: &[u8], h: Header, r: Record, place: u64) -> Result<(), Refusal>
     requires { Inside seg.now h }
     ensures { result ≡ slices_rules sh seg.now h r place }
 {
-    match check_extents(seg, h, r, place) {
-        Verdict::Refused(x) => {
-            return Verdict::Refused(x);
-        }
-        Verdict::Accepted => {}
-    }
+    check_extents(seg, h, r, place)?;
     check_total(sh, seg, h, r, place)
 }

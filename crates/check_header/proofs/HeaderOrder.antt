@@ -4,9 +4,7 @@ use Prim.Native.Nat.{ℕ, ◌≤◌}
 use mathlib.Core.Path.{◌≡◌}
 use mathlib.Core.List.{List}
 use lib.ListN.{length}
-use Rattle.answer.specs.declared.Refusal.{Refusal}
-use Rattle.answer.specs.declared.Verdict.{Verdict}
-use Rattle.answer.specs.declared.Verdict.TheVariants.{Accepted, Refused}
+use Rattle.answer.specs.Rules.{accepted}
 use Rattle.answer.proofs.Order.{then-accepted}
 use Rattle.segment.specs.declared.header.Header.{Header}
 use Rattle.segment.specs.declared.shape.Shape.{Shape}
@@ -16,15 +14,6 @@ use Rattle.check_book.specs.Readable.{Laid}
 use Rattle.check_book.proofs.TablesHeader.{layout-book}
 use Rattle.check_header.specs.HeaderRules.{header_rules}
 
-module _ (sh : Shape) (h : Header) (n : ℕ) where
-  pub head-stop : (x : Refusal) → head_verdict sh h ≡ Refused x → Refused x ≡ header_rules sh h n
-  unfolding header_rules
-  head-stop x e = rw e
-
-  pub head-pass : {v : Verdict} → head_verdict sh h ≡ Accepted → v ≡ layout_verdict sh h n → v ≡ header_rules sh h n
-  unfolding header_rules
-  head-pass e f = rw e f
-
-pub laid_of : (sh : Shape) → Shaped sh → (s : List ℕ) (h : Header) → header_rules sh h (length s) ≡ Accepted → length s ≤ 1073741824 → Laid sh s h
+pub laid_of : (sh : Shape) → Shaped sh → (s : List ℕ) (h : Header) → header_rules sh h (length s) ≡ accepted → length s ≤ 1073741824 → Laid sh s h
 unfolding header_rules
 laid_of sh w s h e most = record { shaped = w; layout = (layout-book sh w s h).0 ((then-accepted (head_verdict sh h) (layout_verdict sh h (length s))).0 e).1; most = most }

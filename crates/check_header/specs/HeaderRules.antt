@@ -2,8 +2,7 @@
 --   header_rules   2 to 4 and 51 to 55
 -- Assumes nothing: these are definitions.
 use Rattle.std.specs.Prelude.{ℕ}
-use Rattle.answer.specs.declared.Verdict.{Verdict}
-use Rattle.answer.specs.Rules.{◌then◌}
+use Rattle.answer.specs.Rules.{◌then◌, Verdict}
 use Rattle.segment.specs.declared.header.Header.{Header}
 use Rattle.segment.specs.declared.shape.Shape.{Shape}
 use Rattle.segment.specs.Check.{head_verdict, layout_verdict}

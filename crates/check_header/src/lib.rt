@@ -7,7 +7,7 @@ ghost use Rattle.segment.specs.Shapes.{Shaped};
 ghost use Rattle.segment.specs.Check.{head_verdict, layout_verdict, checksum_verdict};
 ghost use Rattle.check_header.specs.HeaderRules.{header_rules};
 
-use answer::{Refusal, Rule, Verdict};
+use answer::{Refusal, Rule};
 use checksum::Engine;
 use field_frame::{footer, header as fields};
 use offset::FileOffset;
@@ -17,31 +17,31 @@ use segment::header;
 use segment::header::Header;
 use segment::shape::Shape;
 
-fn check_head(sh: Shape, h: Header) -> Verdict
+fn check_head(sh: Shape, h: Header) -> Result<(), Refusal>
     ensures { result ≡ head_verdict sh h }
 {
     if h.magic != sh.magic {
-        return Verdict::Refused(Refusal(Rule::Magic, 0));
+        return Err(Refusal(Rule::Magic, 0));
     }
     if h.version != sh.version {
-        return Verdict::Refused(Refusal(Rule::Version, 0));
+        return Err(Refusal(Rule::Version, 0));
     }
     if h.header_size != Header::STATED {
-        return Verdict::Refused(Refusal(Rule::Header, 0));
+        return Err(Refusal(Rule::Header, 0));
     }
     if h.federation != 0 {
-        return Verdict::Refused(Refusal(Rule::Header, 0));
+        return Err(Refusal(Rule::Header, 0));
     }
     if h.reserved != 0 {
-        return Verdict::Refused(Refusal(Rule::Header, 0));
+        return Err(Refusal(Rule::Header, 0));
     }
     if h.flags != 0 {
-        return Verdict::Refused(Refusal(Rule::Header, 0));
+        return Err(Refusal(Rule::Header, 0));
     }
     if 1 < h.visibility {
-        return Verdict::Refused(Refusal(Rule::Header, 0));
+        return Err(Refusal(Rule::Header, 0));
     }
-    Verdict::Accepted
+    Ok(())
 }
 
 // Whether a section begins where so many bytes end that begin at a place, over whole numbers.
@@ -73,63 +73,59 @@ fn ends_so(n: u64, extents: FileOffset, count: u64) -> bool
 }
 
 // Each rule is refused at the byte of the header at which its fields begin.
-fn check_layout(sh: Shape, h: Header, n: u64) -> Verdict
+fn check_layout(sh: Shape, h: Header, n: u64) -> Result<(), Refusal>
     requires { Shaped sh }
     ensures { result ≡ layout_verdict sh h n }
 {
     if h.bloom_offset.0 != header::bloom_place(h.bloom_size).0 {
-        return Verdict::Refused(Refusal(Rule::LayoutBloom, fields::BLOOM_OFFSET as u64));
+        return Err(Refusal(Rule::LayoutBloom, fields::BLOOM_OFFSET.0 as u64));
     }
     if h.bloom_size % 8 != 0 {
-        return Verdict::Refused(Refusal(Rule::LayoutBloom, fields::BLOOM_OFFSET as u64));
+        return Err(Refusal(Rule::LayoutBloom, fields::BLOOM_OFFSET.0 as u64));
     }
     if segment::MOST_RECORDS < h.record_count {
-        return Verdict::Refused(Refusal(Rule::LayoutRecords, fields::RECORD_COUNT as u64));
+        return Err(Refusal(Rule::LayoutRecords, fields::RECORD_COUNT.0 as u64));
     }
     if !follows(h.records_offset, FileOffset(Header::LONG), h.bloom_size) {
-        return Verdict::Refused(Refusal(Rule::LayoutRecords, fields::RECORD_COUNT as u64));
+        return Err(Refusal(Rule::LayoutRecords, fields::RECORD_COUNT.0 as u64));
     }
     if !follows(
         h.digests_offset,
         h.records_offset,
         sh.record_size as u64 * h.record_count,
     ) {
-        return Verdict::Refused(Refusal(Rule::LayoutDigests, fields::DIGESTS_OFFSET as u64));
+        return Err(Refusal(Rule::LayoutDigests, fields::DIGESTS_OFFSET.0 as u64));
     }
     if h.digests_size % 8 != 0 {
-        return Verdict::Refused(Refusal(Rule::LayoutDigests, fields::DIGESTS_OFFSET as u64));
+        return Err(Refusal(Rule::LayoutDigests, fields::DIGESTS_OFFSET.0 as u64));
     }
     if !follows(h.extents_offset, h.digests_offset, h.digests_size) {
-        return Verdict::Refused(Refusal(Rule::LayoutExtents, fields::EXTENTS_OFFSET as u64));
+        return Err(Refusal(Rule::LayoutExtents, fields::EXTENTS_OFFSET.0 as u64));
     }
     if !ends_so(n, h.extents_offset, h.extent_count) {
-        return Verdict::Refused(Refusal(Rule::LayoutLength, fields::EXTENT_COUNT as u64));
+        return Err(Refusal(Rule::LayoutLength, fields::EXTENT_COUNT.0 as u64));
     }
-    Verdict::Accepted
+    Ok(())
 }
 
 // 2 to 4 and 51 to 55, of a file of n bytes.
-pub fn check_header(sh: Shape, h: Header, n: u64) -> Verdict
+#[tactic(auto, unfolding(crate::specs::HeaderRules::header_rules))]
+pub fn check_header(sh: Shape, h: Header, n: u64) -> Result<(), Refusal>
     requires { Shaped sh }
     ensures { result ≡ header_rules sh h n }
 {
-    match check_head(sh, h) {
-        Verdict::Refused(r) => {
-            return Verdict::Refused(r);
-        }
-        Verdict::Accepted => {}
-    }
+    check_head(sh, h)?;
     check_layout(sh, h, n)
 }
 
-pub fn check_checksum(by: Engine, seg: &[u8]) -> Verdict
+pub fn check_checksum(by: Engine, seg: &[u8]) -> Result<(), Refusal>
     requires { footer_size ≤ length seg.now }
     ensures { result ≡ checksum_verdict seg.now }
 {
     let end = seg.len() - Footer::SIZE;
-    let stored = footer::checksum(seg, FileOffset(end as u64));
+    let stored = footer::CHECKSUM.read(seg, FileOffset(end as u64));
     if checksum::checksum_by(by, &seg[..end]) != stored {
-        return Verdict::Refused(Refusal(Rule::Checksum, 0));
+        return Err(Refusal(Rule::Checksum, 0));
     }
-    Verdict::Accepted
+    Ok(())
 }

@@ -3,8 +3,7 @@
 --   body_rules         everything from the checksum on
 -- Assumes nothing: these are definitions.
 use Rattle.std.specs.Prelude.{ℕ, List}
-use Rattle.answer.specs.declared.Verdict.{Verdict}
-use Rattle.answer.specs.Rules.{◌then◌, first_over}
+use Rattle.answer.specs.Rules.{◌then◌, first_over, Verdict}
 use Rattle.segment.specs.declared.header.Header.{Header}
 use Rattle.segment.specs.declared.shape.Shape.{Shape}
 use Rattle.segment.specs.Format.{record_count, record_at}

@@ -9,13 +9,13 @@ ghost use Rattle.segment.specs.Check.{segment_rules, segment_verdict, check_of};
 ghost use Rattle.check_book.specs.Readable.{Laid};
 ghost use Rattle.check_segment.specs.SegmentParts.{contents_verdict, body_rules};
 
-use answer::{Refusal, Rule, Verdict};
-use check_records::Passed;
+use answer::{Refusal, Rule};
 use checksum::Engine;
-use key::Kind;
+use key::Items;
 use segment::footer::Footer;
 use segment::header::Header;
 use segment::shape::Shape;
+use table::Table;
 
 // A segment's length at the least and at the most: a header and a footer; one GiB.
 const LEAST: usize = Header::SIZE + Footer::SIZE;
@@ -23,76 +23,59 @@ const LEAST: usize = Header::SIZE + Footer::SIZE;
 const LIMIT: usize = segment::LIMIT as usize;
 
 // Records, visibility and duplicates, of a segment whose header, layout and checksum are right.
-fn check_contents(sh: Shape, pairs: &[u64], seg: &[u8], h: Header) -> Verdict
+fn check_contents(sh: Shape, pairs: &[u64], seg: &[u8], h: Header) -> Result<(), Refusal>
     requires { Laid sh seg.now h }
     ensures { result ≡ contents_verdict sh pairs.now seg.now h }
 {
-    match check_records::check_records(sh, pairs, seg, h) {
-        Passed::Refused(r) => {
-            return Verdict::Refused(r);
-        }
-        Passed::Largest(v) => {
-            if v != h.visibility {
-                return Verdict::Refused(Refusal(Rule::Visibility, 0));
-            }
-        }
+    let largest = check_records::check_records(sh, pairs, seg, h)?;
+    if largest != h.visibility {
+        return Err(Refusal(Rule::Visibility, 0));
     }
-    let at = h.records_offset;
+    let items = Items::records(h.records_offset, sh, seg);
     let n = h.record_count as usize;
-    if key_ascending::keys_climb(Kind::Records(at, sh), seg, &key::NO_LIST, n) {
-        return Verdict::Accepted;
+    if key_ascending::keys_climb(items, n) {
+        return Ok(());
     }
-    key_duplicate::check_keys(Kind::Records(at, sh), seg, &key::NO_LIST, n)
+    key_duplicate::check_keys(items, n)
 }
 
 // The checksum, and then the contents.
-fn check_body(by: Engine, sh: Shape, pairs: &[u64], seg: &[u8], h: Header) -> Verdict
+#[tactic(auto, unfolding(crate::specs::SegmentParts::body_rules))]
+fn check_body(by: Engine, sh: Shape, pairs: &[u64], seg: &[u8], h: Header) -> Result<(), Refusal>
     requires { Laid sh seg.now h }
     ensures { result ≡ body_rules sh pairs.now seg.now h }
 {
-    match check_header::check_checksum(by, seg) {
-        Verdict::Refused(r) => {
-            return Verdict::Refused(r);
-        }
-        Verdict::Accepted => {}
-    }
+    check_header::check_checksum(by, seg)?;
     check_contents(sh, pairs, seg, h)
 }
 
-fn check_rules(by: Engine, sh: Shape, pairs: &[u64], seg: &[u8], h: Header) -> Verdict
+fn check_rules(by: Engine, sh: Shape, pairs: &[u64], seg: &[u8], h: Header) -> Result<(), Refusal>
     requires shaped { Shaped sh }
     requires seg_len_bound { length seg.now ≤ file_limit }
     ensures { result ≡ segment_rules sh pairs.now seg.now h }
 {
-    match check_header::check_header(sh, h, seg.len() as u64) {
-        Verdict::Refused(r) => {
-            return Verdict::Refused(r);
-        }
-        Verdict::Accepted => {}
-    }
+    check_header::check_header(sh, h, seg.len() as u64)?;
     check_body(by, sh, pairs, seg, h)
 }
 
 // Everything but the table.
-pub fn check_segment(by: Engine, pairs: &[u64], seg: &[u8]) -> Verdict
+pub fn check_segment(by: Engine, pairs: &[u64], seg: &[u8]) -> Result<(), Refusal>
     ensures { result ≡ segment_verdict v3 pairs.now seg.now }
 {
     if seg.len() < LEAST {
-        return Verdict::Refused(Refusal(Rule::Size, 0));
+        return Err(Refusal(Rule::Size, 0));
     }
     if LIMIT < seg.len() {
-        return Verdict::Refused(Refusal(Rule::Size, 0));
+        return Err(Refusal(Rule::Size, 0));
     }
     check_rules(by, Shape::V3, pairs, seg, Header::of(seg))
 }
 
-pub fn check_by(by: Engine, pairs: &[u64], seg: &[u8]) -> Verdict
+pub fn check_by(by: Engine, pairs: &[u64], seg: &[u8]) -> Result<(), Refusal>
     ensures { check_answer result ≡ check_of pairs.now seg.now }
 {
-    if !table::good(pairs) {
-        return Verdict::Refused(Refusal(Rule::Table, 0));
-    }
-    let numbers = table::copied(pairs);
-    let count = pairs.len();
-    check_segment(by, &numbers[..count], seg)
+    let Some(table) = Table::new(pairs) else {
+        return Err(Refusal(Rule::Table, 0));
+    };
+    check_segment(by, table.pairs(), seg)
 }

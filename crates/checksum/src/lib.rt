@@ -8,20 +8,23 @@ ghost use Rattle.checksum.specs.Parts.{crc_on};
 ghost use Rattle.checksum.specs.Asked.{engine_of};
 
 // The fast one is for a caller who does not choose.
-#[derive(Clone, Copy)]
+#[derive(Clone, Copy, Debug, PartialEq, Eq)]
 pub enum Engine {
     Fast,
     Plain,
 }
 
 // The engine that a number asks for: 1 for the plain one, and every other number for the fast one.
-pub fn engine_of(number: u64) -> Engine
-    ensures { result ≡ engine_of number }
-{
-    if number == 1 {
-        return Engine::Plain;
+#[tactic(auto, unfolding(crate::specs::Asked::engine_of))]
+impl From<u64> for Engine {
+    ghost from_gives = { λ number by. by ≡ engine_of number };
+
+    fn from(number: u64) -> Engine {
+        match number {
+            1 => Engine::Plain,
+            _ => Engine::Fast,
+        }
     }
-    Engine::Fast
 }
 
 pub fn checksum_by(by: Engine, s: &[u8]) -> u64
@@ -39,6 +42,7 @@ pub fn checksum(s: &[u8]) -> u64
     checksum_by(Engine::Fast, s)
 }
 
+// Beside `checksum_by`, since a register has no inversion at its end, and each engine has a whole form of its own.
 fn register_by(by: Engine, register: u64, s: &[u8]) -> u64
     ensures { result ≡ run register s.now }
 {
@@ -50,6 +54,7 @@ fn register_by(by: Engine, register: u64, s: &[u8]) -> u64
 
 // The checksum of bytes that come in parts: s is the next part, and `before` the checksum of those before it, 0 where there are none.
 // To invert is to take back an inversion, so that `before` inverted is the register that they left.
+#[tactic(auto, unfolding(crate::specs::Parts::crc_on))]
 pub fn checksum_on_by(by: Engine, before: u64, s: &[u8]) -> u64
     ensures { result ≡ crc_on before s.now }
 {

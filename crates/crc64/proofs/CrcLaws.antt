@@ -2,7 +2,7 @@
 --   run-append   a run over two lists is the run over the second from where the first left the register
 --   crc-parts    so the checksum of two parts, run one after the other, is the checksum of both
 -- Assumes nothing.
-use mathlib.Core.Path.{◌≡◌, refl, sym, ap, ◌∙◌}
+use mathlib.Core.Path.{◌≡◌, refl, ap}
 use mathlib.Core.List.{List, [], ◌∷◌, ◌++◌}
 use Prim.Native.Nat.{ℕ, ◌+◌, ◌/◌, ◌%◌, ◌≤◌, ◌<◌}
 use native.Mathlib.Numerals.{add-one}
@@ -33,22 +33,15 @@ step-even c e =
     rw z (xor_zero_r (c / 2))
 
 -- one step more, as a loop that counts up takes it
-pub steps-more : (k a x : ℕ) → x ≡ steps k a → step x ≡ steps (k + 1) a
+pub steps_more : (k c : ℕ) → steps (k + 1) c ≡ step (steps k c)
 unfolding steps
-steps-more k a x e = rw (e, add-one)
+steps_more k c = rw add-one
 
--- a loop over s that began with the register c₀ has come to i with the register c
-pub record Reached (c₀ : ℕ) (s : List ℕ) (c i : ℕ) : Type 0 where
-  pub within : i ≤ length s
-  pub same : run c₀ s ≡ run c (drop i s)
-
-pub at-start : (c₀ : ℕ) (s : List ℕ) → Reached c₀ s c₀ 0
-at-start c₀ s = record { within = omega arith; same = refl }
-
-pub one_more : {s : List ℕ} {c₀ c i : ℕ} → Reached c₀ s c i → i < length s → Reached c₀ s (byte c (get_or s i 0)) (i + 1)
+-- a run from place i on: the byte there first, and past the end no byte
+pub run_more : (s : List ℕ) (c i : ℕ) → i < length s → run c (drop i s) ≡ run (byte c (get_or s i 0)) (drop (i + 1) s)
 unfolding run
-one_more {s} {i} r h = record { within = omega arith; same = r.same ∙ rw (add-one, drop-cons s i 0) }
+run_more s c i h = rw (add-one, drop-cons s i 0)
 
-pub at-end : {s : List ℕ} {c₀ c i : ℕ} → Reached c₀ s c i → length s ≤ i → c ≡ run c₀ s
+pub run_none : (s : List ℕ) (c i : ℕ) → length s ≤ i → run c (drop i s) ≡ c
 unfolding run
-at-end {s} {c} r h = sym (r.same ∙ ap (run c) (drop_of_length-le s h))
+run_none s c i h = ap (run c) (drop_of_length-le s h)

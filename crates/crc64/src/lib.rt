@@ -12,12 +12,7 @@ const POLY: u64 = 0xC96C_5795_D787_0F42;
 // The register before the first byte: all ones.
 pub const START: u64 = 0xFFFF_FFFF_FFFF_FFFF;
 
-fn wide(b: u8) -> u64
-    ensures { result ≡ b }
-{
-    b as u64
-}
-
+#[tactic(auto, unfolding(crate::specs::Crc::step))]
 fn bit(register: u64) -> u64
     ensures { result ≡ step register }
 {
@@ -28,23 +23,25 @@ fn bit(register: u64) -> u64
     }
 }
 
+#[tactic(auto, using(crate::proofs::CrcLaws::steps_more), unfolding(crate::specs::Crc::byte, crate::specs::Crc::steps))]
 fn eat(register: u64, b: u8) -> u64
     ensures { result ≡ byte register b }
 {
-    let mut x = register ^ wide(b);
-    for k in 0usize..8 {
+    let mut x = register ^ u64::from(b);
+    for _ in 0..8u32 {
         x = bit(x);
     }
     x
 }
 
 // The register after the bytes of s, from the register that stood before them.
+#[tactic(auto, using(crate::proofs::CrcLaws::run_more, crate::proofs::CrcLaws::run_none))]
 pub fn crc64_plain_on(register: u64, s: &[u8]) -> u64
     ensures { result ≡ run register s.now }
 {
     let mut c = register;
-    for i in 0..s.len() {
-        c = eat(c, s[i]);
+    for b in s {
+        c = eat(c, *b);
     }
     c
 }
@@ -56,6 +53,7 @@ pub fn crc64_finish(register: u64) -> u64
     register ^ START
 }
 
+#[tactic(auto, unfolding(crate::specs::Crc::crc))]
 pub fn crc64_plain(s: &[u8]) -> u64
     ensures { result ≡ crc s.now }
 {

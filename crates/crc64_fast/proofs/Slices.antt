@@ -1,24 +1,24 @@
 -- The laws of eight bytes at a step: the bytes of a word go in together, and each byte of the register goes through its own table.
 --   together   bytes that go in one after the other go in together
---   more       a loop that has come to i comes to i + n by n bytes at once
+--   run_eight  eight bytes in front of a list go in at once
 --   slices     of the four low bytes of a number each goes by itself
 --   halves     of a register the four low bytes go by themselves, and so do the four high ones
---   pack       one more byte, as the code packs it: the shift loses nothing, and the digits are apart
+--   packed_eight   eight bytes as a sum, since their digits are apart
 --   from_first a slice from its first byte on is the slice
 -- Assumes nothing.
-use mathlib.Core.Path.{◌≡◌, sym, ap, ap₂, ◌∙◌, subst}
-use mathlib.Core.List.{List}
+use mathlib.Core.Path.{◌≡◌, refl, sym, ap, ◌∙◌, subst}
+use mathlib.Core.List.{List, ◌++◌}
 use Prim.Native.Nat.{ℕ, zero, suc, ◌+◌, ◌-◌, ◌*◌, ◌/◌, ◌%◌, ◌^◌, ◌≤◌, ◌<◌}
-use native.Mathlib.Nat.{div-eq_of_lt, mod-lt, add-zero, lt_of_lt_of_le}
+use native.Mathlib.Nat.{div-eq_of_lt, mod-lt, lt_of_lt_of_le}
 use native.Mathlib.Numerals.{add-one}
 use native.Mathlib.Omega.{arith}
-use lib.Pow.{pow_mono, pow_pos, shr-shr, shl_exact, shl_lt, field, mod-mod-pow, shr_mod}
-use lib.Bits.{bit_xor, bit_or, xor_zero_r, xor_comm, xor_lt, xor_shifted, or_shifted_r}
+use lib.Pow.{pow_mono, pow_pos, shr-shr, shl_lt, field, mod-mod-pow, shr_mod}
+use lib.Bits.{bit_xor, xor_zero_r, xor_comm, xor_lt, xor_shifted}
 use lib.Dec.{lit<}
-use lib.ListN.{length, get_or, take, drop}
-use lib.Seq.{take_all}
+use lib.ListN.{length, get_or, take, drop, length-append}
+use lib.Seq.{take_all, drop-append-add}
 use Rattle.crc64.specs.Crc.{steps, byte, run}
-use Rattle.crc64.proofs.CrcLaws.{Reached, one_more}
+use Rattle.crc64.proofs.CrcLaws.{run-append, run_more, run_none}
 use Rattle.crc64_laws.proofs.Xor.{xor_assoc}
 use Rattle.crc64_laws.proofs.StepLaws.{byte-steps, cut, steps-none}
 use Rattle.crc64_fast.specs.Word.{packed}
@@ -39,16 +39,26 @@ together c b (suc n) =
     ap (λ (x : ℕ). byte x d) (together c b n) ∙ byte-steps m (bit_xor c p) d
     ∙ ap (steps (8 + m)) (xor_assoc c p (d * 2 ^ m)) ∙ ap (λ (k : ℕ). steps k (bit_xor c (bit_xor p (d * 2 ^ m)))) e
 
-fed-more : {s : List ℕ} {c₀ c i : ℕ} (n : ℕ) → Reached c₀ s c i → i + n ≤ length s → Reached c₀ s (fed c (λ k. get_or s (i + k) 0) n) (i + n)
+-- of a list that is run over, n bytes first
+run_fed : (s : List ℕ) (c n : ℕ) → n ≤ length s → run c s ≡ run (fed c (λ k. get_or s k 0) n) (drop n s)
 unfolding fed
-fed-more zero r h = rw add-zero r
-fed-more {s} {c₀} {c} {i} (suc n) r h =
-    let e : i + n + 1 ≡ i + suc n = omega arith in
-    subst (Reached c₀ s (fed c (λ k. get_or s (i + k) 0) (suc n))) e (one_more (fed-more n r (omega arith)) (omega arith))
+run_fed s c zero h = refl
+run_fed s c (suc n) h = run_fed s c n (omega arith) ∙ run_more s (fed c (λ k. get_or s k 0) n) n (omega arith) ∙ rw add-one
 
-pub more : {s : List ℕ} {c₀ c i : ℕ} (n : ℕ) → Reached c₀ s c i → i + n ≤ length s
-    → Reached c₀ s (steps (8 * n) (bit_xor c (packed (λ k. get_or s (i + k) 0) n))) (i + n)
-more {s} {c} {i} n r h = rw (together c (λ k. get_or s (i + k) 0) n) at (fed-more n r h)
+-- eight bytes in front go in together
+pub run_eight : (bytes after : List ℕ) (c : ℕ) → length bytes ≡ 8
+    → run c (bytes ++ after) ≡ run (steps 64 (bit_xor c (packed (λ k. get_or bytes k 0) 8))) after
+run_eight bytes after c e =
+    run-append bytes after c
+    ∙ ap (λ (x : ℕ). run x after) (run_fed bytes c 8 (omega arith) ∙ run_none bytes (fed c (λ k. get_or bytes k 0) 8) 8 (omega arith) ∙ together c (λ k. get_or bytes k 0) 8)
+
+-- what is left after them ends in the same short tail
+pub tail_eight : (bytes after : List ℕ) → length bytes ≡ 8
+    → drop (length (bytes ++ after) - length (bytes ++ after) % 8) (bytes ++ after) ≡ drop (length after - length after % 8) after
+tail_eight bytes after e =
+    let n : length (bytes ++ after) - length (bytes ++ after) % 8 ≡ length bytes + (length after - length after % 8) =
+    omega (arith, length-append bytes after) in
+    rw n (drop-append-add bytes after (length after - length after % 8))
 
 -- steps by the lowest byte and by the rest, where k digits are gone already
 byte_at : (k n x : ℕ) → steps (n + 8) (x / 2 ^ k) ≡ bit_xor (steps (n + 8) (x / 2 ^ k % 256)) (steps n (x / 2 ^ (k + 8)))
@@ -94,14 +104,32 @@ packed_lt b (suc n) bytes =
     (xor_lt (8 + 8 * n) (packed b n) (b n * 2 ^ (8 * n))
     (lt_of_lt_of_le (packed_lt b n bytes) (pow_mono {i = 8 * n} {j = 8 + 8 * n} (omega arith))) (shl_lt 8 (8 * n) (bytes n)))
 
-pub pack : (k : ℕ) (b : ℕ → ℕ) {p r : ℕ} → k < 8 → ((j : ℕ) → b j < 256) → p ≡ packed b k → r ≡ b k
-    → bit_or p (r * 2 ^ (8 * k) % 2 ^ 64) ≡ packed b (k + 1)
+-- one byte more stands above those that are packed
+packed_more : (b : ℕ → ℕ) (n : ℕ) → ((k : ℕ) → b k < 256) → packed b (suc n) ≡ packed b n + b n * 2 ^ (8 * n)
 unfolding packed
-pack k b h bytes e f =
-    let m = 8 * k in
-    ap₂ bit_or e (ap (λ (x : ℕ). x * 2 ^ m % 2 ^ 64) f ∙ shl_exact 8 m 64 (bytes k) (omega arith))
-    ∙ or_shifted_r (b k) m (packed b k) (packed_lt b k bytes) ∙ sym (xor_shifted (b k) m (packed b k) (packed_lt b k bytes))
-    ∙ xor_comm (b k * 2 ^ m) (packed b k) ∙ rw add-one
+packed_more b n bytes = xor_comm (packed b n) (b n * 2 ^ (8 * n)) ∙ xor_shifted (b n) (8 * n) (packed b n) (packed_lt b n bytes) ∙ omega arith
+
+packed_none : (b : ℕ → ℕ) → packed b 0 ≡ 0
+unfolding packed
+packed_none b = refl
+
+-- eight bytes as the library puts them together
+pub packed_eight : (b : ℕ → ℕ) → ((k : ℕ) → b k < 256)
+    → packed b 8
+    ≡ b 0 + b 1 * 256 ^ 1 + b 2 * 256 ^ 2 + b 3 * 256 ^ 3 + b 4 * 256 ^ 4 + b 5 * 256 ^ 5 + b 6 * 256 ^ 6 + b 7 * 256 ^ 7
+packed_eight b bytes =
+    omega (
+      arith,
+      packed_none b,
+      packed_more b 0 bytes,
+      packed_more b 1 bytes,
+      packed_more b 2 bytes,
+      packed_more b 3 bytes,
+      packed_more b 4 bytes,
+      packed_more b 5 bytes,
+      packed_more b 6 bytes,
+      packed_more b 7 bytes,
+    )
 
 pub from_first : (c : ℕ) (s : List ℕ) → run c (take (length s - 0) (drop 0 s)) ≡ run c s
 from_first c s = ap (run c) (take_all (length s - 0) s (omega arith))

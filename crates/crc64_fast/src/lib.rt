@@ -12,25 +12,15 @@ ghost use Rattle.crc64_fast.specs.Word.{packed};
 // The length in bytes from which the tables are used. They pay from somewhat less on, if their code is in the caches (docs/PERFORMANCE.md, "The checksum").
 const PAYS: usize = 640;
 
-fn wide(b: u8) -> u64
-    ensures { result ≡ b }
+// Eight bytes as one number, the first lowest.
+fn word(s: &[u8]) -> u64
+    requires { length s.now ≡ 8 }
+    ensures { result ≡ packed (λ k. get_or s.now k 0) 8 }
 {
-    b as u64
+    u64::from_le_bytes(s.try_into().unwrap())
 }
 
-// Eight bytes from i on as one number, the first lowest.
-fn word(s: &[u8], i: usize) -> u64
-    requires { i + 8 ≤ length s.now }
-    ensures { result ≡ packed (λ k. get_or s.now (i + k) 0) 8 }
-{
-    let mut w: u64 = 0;
-    for k in 0usize..8 {
-        w = w | (wide(s[i + k]) << (8 * k));
-    }
-    w
-}
-
-// The number of x's lowest byte in table k.
+// The number of x's lowest byte in table k. The library has no `From` of a u64 for a usize.
 fn at(t: &[u64; 2048], k: usize, x: u64) -> u64
     requires { (k < 8) × Tables t.now }
     ensures { result ≡ steps (8 * k + 8) (x % 256) }
@@ -66,6 +56,7 @@ fn eat_word(t: &[u64; 2048], x: u64) -> Halves
     }
 }
 
+#[tactic(auto, using(crate::proofs::Slices::run_eight, crate::proofs::Slices::tail_eight))]
 fn by_tables(t: &[u64; 2048], register: u64, s: &[u8]) -> u64
     requires { Tables t.now }
     ensures { result ≡ run register s.now }
@@ -74,12 +65,12 @@ fn by_tables(t: &[u64; 2048], register: u64, s: &[u8]) -> u64
         low: register,
         high: 0,
     };
-    let mut i: usize = 0;
-    while 8 <= s.len() - i {
-        c = eat_word(t, c.low ^ c.high ^ word(s, i));
-        i = i + 8;
+    let words = s.chunks_exact(8);
+    let tail = words.remainder();
+    for bytes in words {
+        c = eat_word(t, c.low ^ c.high ^ word(bytes));
     }
-    crc64::crc64_plain_on(c.low ^ c.high, &s[i..])
+    crc64::crc64_plain_on(c.low ^ c.high, tail)
 }
 
 // The tables stand on the stack of this function alone, so that a short input does not pay for their room. It stays apart as long as more than
@@ -93,6 +84,7 @@ fn with_tables(register: u64, s: &[u8]) -> u64
 
 // The register after the bytes of s, from the register that stood before them. `with_tables` is lent `&s[0..]`, here and below, and not s: a slice
 // that is lent to a function of its own stands on the stack, and s would be put there before its length is looked at.
+#[tactic(auto, using(crate::proofs::Slices::from_first))]
 pub fn crc64_fast_on(register: u64, s: &[u8]) -> u64
     ensures { result ≡ run register s.now }
 {
@@ -102,6 +94,7 @@ pub fn crc64_fast_on(register: u64, s: &[u8]) -> u64
     with_tables(register, &s[0..])
 }
 
+#[tactic(auto, using(crate::proofs::Slices::from_first), unfolding(crc64::specs::Crc::crc))]
 pub fn crc64_fast(s: &[u8]) -> u64
     ensures { result ≡ crc s.now }
 {

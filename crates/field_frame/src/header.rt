@@ -1,177 +1,42 @@
-// The header, field by field as docs/FORMAT.md, "The header", lists it. Each function is told that the segment has a whole header.
-ghost use Rattle.std.specs.Prelude.{◌≡◌, ◌≤◌, length};
-ghost use Rattle.numbers.specs.Numbers.{num_at};
-ghost use Rattle.field_record.specs.Sizes.{header_size};
-
+// The header, field by field as docs/FORMAT.md, "The header", lists it.
+use field_record::Field;
 use offset::FileOffset;
+use std::marker::PhantomData;
 
-pub const MAGIC: usize = 0;
+pub const MAGIC: Field<u64> = Field(0, PhantomData);
 
-pub const VERSION: usize = 8;
+pub const VERSION: Field<u16> = Field(8, PhantomData);
 
-pub const SHARD: usize = 10;
+pub const SHARD: Field<u16> = Field(10, PhantomData);
 
-pub const HEADER_SIZE: usize = 12;
+pub const HEADER_SIZE: Field<u32> = Field(12, PhantomData);
 
-pub const SNAPSHOT_MIN: usize = 16;
+pub const SNAPSHOT_MIN: Field<u64> = Field(16, PhantomData);
 
-pub const SNAPSHOT_MAX: usize = 24;
+pub const SNAPSHOT_MAX: Field<u64> = Field(24, PhantomData);
 
-pub const RECORD_COUNT: usize = 32;
+pub const RECORD_COUNT: Field<u64> = Field(32, PhantomData);
 
-pub const RECORDS_OFFSET: usize = 40;
+pub const RECORDS_OFFSET: Field<FileOffset> = Field(40, PhantomData);
 
-pub const BLOOM_OFFSET: usize = 48;
+pub const BLOOM_OFFSET: Field<FileOffset> = Field(48, PhantomData);
 
-pub const BLOOM_SIZE: usize = 56;
+pub const BLOOM_SIZE: Field<u64> = Field(56, PhantomData);
 
-pub const DIGESTS_OFFSET: usize = 64;
+pub const DIGESTS_OFFSET: Field<FileOffset> = Field(64, PhantomData);
 
-pub const DIGESTS_SIZE: usize = 72;
+pub const DIGESTS_SIZE: Field<u64> = Field(72, PhantomData);
 
-pub const EXTENTS_OFFSET: usize = 80;
+pub const EXTENTS_OFFSET: Field<FileOffset> = Field(80, PhantomData);
 
-pub const EXTENT_COUNT: usize = 88;
+pub const EXTENT_COUNT: Field<u64> = Field(88, PhantomData);
 
-pub const DOMAIN: usize = 96;
+pub const DOMAIN: Field<u32> = Field(96, PhantomData);
 
-pub const VISIBILITY: usize = 100;
+pub const VISIBILITY: Field<u8> = Field(100, PhantomData);
 
-pub const FEDERATION: usize = 101;
+pub const FEDERATION: Field<u8> = Field(101, PhantomData);
 
-pub const RESERVED: usize = 102;
+pub const RESERVED: Field<u16> = Field(102, PhantomData);
 
-pub const FLAGS: usize = 104;
-
-pub fn magic(seg: &[u8]) -> u64
-    requires { header_size ≤ length seg.now }
-    ensures { result ≡ num_at 8 seg.now 0 }
-{
-    numbers::u64_at(seg, MAGIC)
-}
-
-pub fn version(seg: &[u8]) -> u16
-    requires { header_size ≤ length seg.now }
-    ensures { result ≡ num_at 2 seg.now 8 }
-{
-    numbers::u16_at(seg, VERSION)
-}
-
-pub fn shard(seg: &[u8]) -> u16
-    requires { header_size ≤ length seg.now }
-    ensures { result ≡ num_at 2 seg.now 10 }
-{
-    numbers::u16_at(seg, SHARD)
-}
-
-pub fn header_size(seg: &[u8]) -> u32
-    requires { header_size ≤ length seg.now }
-    ensures { result ≡ num_at 4 seg.now 12 }
-{
-    numbers::u32_at(seg, HEADER_SIZE)
-}
-
-pub fn snapshot_min(seg: &[u8]) -> u64
-    requires { header_size ≤ length seg.now }
-    ensures { result ≡ num_at 8 seg.now 16 }
-{
-    numbers::u64_at(seg, SNAPSHOT_MIN)
-}
-
-pub fn snapshot_max(seg: &[u8]) -> u64
-    requires { header_size ≤ length seg.now }
-    ensures { result ≡ num_at 8 seg.now 24 }
-{
-    numbers::u64_at(seg, SNAPSHOT_MAX)
-}
-
-pub fn record_count(seg: &[u8]) -> u64
-    requires { header_size ≤ length seg.now }
-    ensures { result ≡ num_at 8 seg.now 32 }
-{
-    numbers::u64_at(seg, RECORD_COUNT)
-}
-
-pub fn records_offset(seg: &[u8]) -> FileOffset
-    requires { header_size ≤ length seg.now }
-    ensures { result.0 ≡ num_at 8 seg.now 40 }
-{
-    FileOffset(numbers::u64_at(seg, RECORDS_OFFSET))
-}
-
-pub fn bloom_offset(seg: &[u8]) -> FileOffset
-    requires { header_size ≤ length seg.now }
-    ensures { result.0 ≡ num_at 8 seg.now 48 }
-{
-    FileOffset(numbers::u64_at(seg, BLOOM_OFFSET))
-}
-
-pub fn bloom_size(seg: &[u8]) -> u64
-    requires { header_size ≤ length seg.now }
-    ensures { result ≡ num_at 8 seg.now 56 }
-{
-    numbers::u64_at(seg, BLOOM_SIZE)
-}
-
-pub fn digests_offset(seg: &[u8]) -> FileOffset
-    requires { header_size ≤ length seg.now }
-    ensures { result.0 ≡ num_at 8 seg.now 64 }
-{
-    FileOffset(numbers::u64_at(seg, DIGESTS_OFFSET))
-}
-
-pub fn digests_size(seg: &[u8]) -> u64
-    requires { header_size ≤ length seg.now }
-    ensures { result ≡ num_at 8 seg.now 72 }
-{
-    numbers::u64_at(seg, DIGESTS_SIZE)
-}
-
-pub fn extents_offset(seg: &[u8]) -> FileOffset
-    requires { header_size ≤ length seg.now }
-    ensures { result.0 ≡ num_at 8 seg.now 80 }
-{
-    FileOffset(numbers::u64_at(seg, EXTENTS_OFFSET))
-}
-
-pub fn extent_count(seg: &[u8]) -> u64
-    requires { header_size ≤ length seg.now }
-    ensures { result ≡ num_at 8 seg.now 88 }
-{
-    numbers::u64_at(seg, EXTENT_COUNT)
-}
-
-pub fn domain(seg: &[u8]) -> u32
-    requires { header_size ≤ length seg.now }
-    ensures { result ≡ num_at 4 seg.now 96 }
-{
-    numbers::u32_at(seg, DOMAIN)
-}
-
-pub fn visibility(seg: &[u8]) -> u8
-    requires { header_size ≤ length seg.now }
-    ensures { result ≡ num_at 1 seg.now 100 }
-{
-    numbers::u8_at(seg, VISIBILITY)
-}
-
-pub fn federation(seg: &[u8]) -> u8
-    requires { header_size ≤ length seg.now }
-    ensures { result ≡ num_at 1 seg.now 101 }
-{
-    numbers::u8_at(seg, FEDERATION)
-}
-
-pub fn reserved(seg: &[u8]) -> u16
-    requires { header_size ≤ length seg.now }
-    ensures { result ≡ num_at 2 seg.now 102 }
-{
-    numbers::u16_at(seg, RESERVED)
-}
-
-pub fn flags(seg: &[u8]) -> u64
-    requires { header_size ≤ length seg.now }
-    ensures { result ≡ num_at 8 seg.now 104 }
-{
-    numbers::u64_at(seg, FLAGS)
-}
+pub const FLAGS: Field<u64> = Field(104, PhantomData);

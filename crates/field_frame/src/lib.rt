@@ -1,5 +1,4 @@
-// The fields of a segment's header and footer, between which the sections stand: each the number of its width at its place, and one
-// accessor for each.
+// The fields of a segment's header and footer, between which the sections stand: a table for each.
 #![tactic(auto)]
 
 pub mod footer;

@@ -1,3 +1,4 @@
 pub mod Items
 pub mod ItemOrder
 pub mod Heads
+pub mod Lent

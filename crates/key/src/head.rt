@@ -3,30 +3,18 @@
 ghost use Rattle.std.specs.Prelude.{◌≡◌, ◌++◌, get_or};
 ghost use Rattle.key.specs.Heads.{head_numbers, lex};
 
-// The numbers of a key that stand before its digest.
-#[derive(Clone, Copy)]
+use std::cmp::Ordering;
+
+// The numbers of a key that stand before its digest. They decide in their order.
+#[derive(Clone, Copy, PartialEq, Eq, PartialOrd, Ord)]
 pub struct Head {
     pub hash_id: u64,
 }
 
-// How two lists of numbers stand to each other.
-#[derive(Clone, Copy)]
-pub enum Compared {
-    Less,
-    Equal,
-    Greater,
-}
-
-pub fn compare_heads(a: Head, b: Head) -> Compared
+pub fn compare_heads(a: Head, b: Head) -> Ordering
     ensures { result ≡ lex (head_numbers a) (head_numbers b) }
 {
-    if a.hash_id < b.hash_id {
-        return Compared::Less;
-    }
-    if b.hash_id < a.hash_id {
-        return Compared::Greater;
-    }
-    Compared::Equal
+    a.cmp(&b)
 }
 
 // Number i of a key: those of its head, then the digest's bytes, and 0 where these have ended.
@@ -38,7 +26,7 @@ pub fn number_of(head: Head, digest: &[u8], i: usize) -> u64
     }
     let at = i - 1;
     if at < digest.len() {
-        return digest[at] as u64;
+        return u64::from(digest[at]);
     }
     0
 }

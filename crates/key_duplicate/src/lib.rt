@@ -9,51 +9,49 @@ ghost use Rattle.std.specs.Prelude.{◌≡◌, ◌≤◌};
 ghost use Rattle.answer.specs.Rules.{first_over};
 ghost use Rattle.segment.specs.Format.{record_limit};
 ghost use Rattle.segment.specs.Keys.{fresh_key};
-ghost use Rattle.key.specs.Items.{Items, item_key, item_place};
+ghost use Rattle.key.specs.Items.{item_place};
+ghost use Rattle.key.specs.Lent.{AllReadable, key_in};
 ghost use Rattle.key_duplicate.specs.Known.{Known};
 
-use answer::{Refusal, Rule, Verdict};
-use key::Kind;
+use answer::{Refusal, Rule};
+use key::Items;
 
 // Up to this many items the scan over all pairs is done sooner than a sort.
 const FEW: usize = 40;
 
 // The first of n items whose key stands earlier, if there is one: each item after those that are known to be new is compared with
 // every one before it.
-fn scan_keys(kind: Kind, bytes: &[u8], list: &[u64], known: usize, n: usize) -> Verdict
-    requires items { Items kind bytes.now list.now n }
-    requires known { Known (item_key kind bytes.now list.now) known n }
-    ensures { result ≡ first_over n (fresh_key (item_key kind bytes.now list.now) (item_place kind)) }
+fn scan_keys(items: Items, known: usize, n: usize) -> Result<(), Refusal>
+    requires items { AllReadable items n }
+    requires known { Known (key_in items) known n }
+    ensures { result ≡ first_over n (fresh_key (key_in items.entry) (item_place items.entry.kind)) }
 {
-    let mut i = known;
-    let found = 'pairs: loop {
-        if n <= i {
-            break 'pairs n;
-        }
-        let mut j = 0;
-        while j < i {
-            if key_equal::same_key(kind, bytes, list, i, j) {
-                break 'pairs i;
+    // A number and no Option, as the scope asks of the scan: n where no key stands earlier.
+    let found = 'pairs: {
+        for i in known..n {
+            for j in 0..i {
+                if key_equal::same_key(items, i, j) {
+                    break 'pairs i;
+                }
             }
-            j += 1;
         }
-        i += 1;
+        n
     };
     if found < n {
-        return Verdict::Refused(Refusal(Rule::Duplicate, key::place_of(kind, found)));
+        return Err(Refusal(Rule::Duplicate, items.place(found)));
     }
-    Verdict::Accepted
+    Ok(())
 }
 
 // The first of n items whose key stands earlier, if there is one.
-pub fn check_keys(kind: Kind, bytes: &[u8], list: &[u64], n: usize) -> Verdict
-    requires items { Items kind bytes.now list.now n }
+pub fn check_keys(items: Items, n: usize) -> Result<(), Refusal>
+    requires items { AllReadable items n }
     requires n_le_record_limit { n ≤ record_limit }
-    ensures { result ≡ first_over n (fresh_key (item_key kind bytes.now list.now) (item_place kind)) }
+    ensures { result ≡ first_over n (fresh_key (key_in items.entry) (item_place items.entry.kind)) }
 {
     if n <= FEW {
-        return scan_keys(kind, bytes, list, 0, n);
+        return scan_keys(items, 0, n);
     }
-    let known = key_repeat::known_fresh(kind, bytes, list, n);
-    scan_keys(kind, bytes, list, known, n)
+    let known = key_repeat::known_fresh(items, n);
+    scan_keys(items, known, n)
 }

@@ -4,34 +4,27 @@
 ghost use Rattle.std.specs.Prelude.{◌≡◌};
 ghost use Rattle.lists.specs.Lists.{eq_list};
 ghost use Rattle.segment.specs.Keys.{key_of, same_key};
-ghost use Rattle.key.specs.Items.{Item, item_key};
 ghost use Rattle.key.specs.Heads.{head_key};
+ghost use Rattle.key.specs.Lent.{Readable, key_in};
 
-use key::Kind;
-use key::head::{Compared, Head};
+use key::Items;
+use key::head::Head;
+use key_compare::{compare_items, compare_keys};
 
 // Whether items i and j have the same key.
-pub fn same_key(kind: Kind, bytes: &[u8], list: &[u64], i: usize, j: usize) -> bool
-    requires item { Item kind bytes.now list.now i }
-    requires item_2 { Item kind bytes.now list.now j }
-    ensures { result ≡ same_key (item_key kind bytes.now list.now) i j }
+pub fn same_key(items: Items, i: usize, j: usize) -> bool
+    requires item { Readable items i }
+    requires item_2 { Readable items j }
+    ensures { result ≡ same_key (key_in items.entry) i j }
 {
-    match key_compare::compare_items(kind, bytes, list, i, j) {
-        Compared::Less => false,
-        Compared::Equal => true,
-        Compared::Greater => false,
-    }
+    compare_items(items, i, j).is_eq()
 }
 
 // Whether an item has the key of a head and a digest.
-pub fn key_is(kind: Kind, bytes: &[u8], list: &[u64], k: usize, head: Head, wanted: &[u8]) -> bool
-    requires { Item kind bytes.now list.now k }
-    ensures { result ≡ eq_list (item_key kind bytes.now list.now k) (key_of (head_key head wanted.now)) }
+pub fn key_is(items: Items, k: usize, head: Head, wanted: &[u8]) -> bool
+    requires { Readable items k }
+    ensures { result ≡ eq_list (key_in items.entry k) (key_of (head_key head wanted.now)) }
 {
-    let own = key::head_of(kind, bytes, list, k);
-    match key_compare::compare_keys(own, key::digest(kind, bytes, list, k), head, wanted) {
-        Compared::Less => false,
-        Compared::Equal => true,
-        Compared::Greater => false,
-    }
+    let own = items.head(k);
+    compare_keys(own, items.digest(k), head, wanted).is_eq()
 }

@@ -5,12 +5,12 @@
 ghost use Rattle.std.specs.Prelude.{◌≡◌, length};
 ghost use Rattle.segment.specs.Keys.{key_of};
 ghost use Rattle.key.specs.Heads.{head_key};
-ghost use Rattle.key.specs.Items.{Item, Items};
-ghost use Rattle.key.specs.ItemOrder.{item_leq};
-ghost use Rattle.key_hint.specs.Leading.{leading, item_hint, Digit, Hinted, Hints};
+ghost use Rattle.key.specs.Lent.{Readable, AllReadable, leq_in};
+ghost use Rattle.key_hint.specs.Leading.{leading, Digit};
+ghost use Rattle.key_hint.specs.Lent.{hint_in, HintsOf, HasHint};
 
-use key::Kind;
-use key::head::Head;
+use key::Items;
+use key::head::{Head, number_of};
 
 // What a digit counts at the first place of a hint, at the second and at the third.
 const FIRST: u32 = 256 * 256 * 256;
@@ -23,7 +23,7 @@ const THIRD: u32 = 256;
 fn digit(head: Head, digest: &[u8], i: usize) -> u32
     ensures { Digit (key_of (head_key head digest.now)) i result }
 {
-    let n = key::head::number_of(head, digest, i);
+    let n = number_of(head, digest, i);
     if 255 <= n {
         return 255;
     }
@@ -49,48 +49,45 @@ fn hint_of(head: Head, digest: &[u8]) -> u32
     w * FIRST + x * SECOND + y * THIRD + digit(head, digest, 3)
 }
 
-pub fn hint(kind: Kind, bytes: &[u8], list: &[u64], k: usize) -> u32
-    requires { Item kind bytes.now list.now k }
-    ensures { result ≡ item_hint kind bytes.now list.now k }
+pub fn hint(items: Items, k: usize) -> u32
+    requires { Readable items k }
+    ensures { result ≡ hint_in items.entry k }
 {
-    hint_of(
-        key::head_of(kind, bytes, list, k),
-        key::digest(kind, bytes, list, k),
-    )
+    hint_of(items.head(k), items.digest(k))
 }
 
 // The hints of as many items as there is room for.
-pub fn put_hints(kind: Kind, bytes: &[u8], list: &[u64], hints: &mut [u32])
-    requires { Items kind bytes.now list.now (length hints.old) }
-    ensures { Hints kind bytes.now list.now (length hints.old) hints.new }
+pub fn put_hints(items: Items, hints: &mut [u32])
+    requires { AllReadable items (length hints.old) }
+    ensures { HintsOf items.entry (length hints.old) hints.new }
 {
-    let mut k = 0;
-    while k < hints.len() {
-        hints[k] = hint(kind, bytes, list, k);
-        k += 1;
+    for (k, own) in hints.iter_mut().enumerate() {
+        *own = hint(items, k);
     }
 }
 
-// Whether item i comes no later than item j. Only where their hints are equal are the keys asked.
-pub fn hinted_first(
-    kind: Kind,
-    bytes: &[u8],
-    list: &[u64],
-    hints: &[u32],
-    i: usize,
-    j: usize,
-) -> bool
-    requires hinted { Hinted kind bytes.now list.now hints.now i }
-    requires hinted_2 { Hinted kind bytes.now list.now hints.now j }
-    ensures { result ≡ item_leq kind bytes.now list.now i j }
-{
-    let x = hints[i];
-    let y = hints[j];
-    if x < y {
-        return true;
+// Items, and a hint of the key of each.
+#[derive(Clone, Copy)]
+pub struct Keys<'a> {
+    pub items: Items<'a>,
+    pub hints: &'a [u32],
+}
+
+impl<'a> Keys<'a> {
+    // Whether item i comes no later than item j. Only where their hints are equal are the keys asked.
+    pub fn comes_first(self, i: usize, j: usize) -> bool
+        requires hinted { HasHint self i }
+        requires hinted_2 { HasHint self j }
+        ensures { result ≡ leq_in self.entry.items i j }
+    {
+        let x = self.hints[i];
+        let y = self.hints[j];
+        if x < y {
+            return true;
+        }
+        if y < x {
+            return false;
+        }
+        key_compare::comes_first(self.items, i, j)
     }
-    if y < x {
-        return false;
-    }
-    key_compare::comes_first(kind, bytes, list, i, j)
 }

@@ -1,6 +1,6 @@
--- Two parts of a list in one: as they stand, or by a merge that is copied back.
+-- Two parts of a list that stand in order are the merge of them.
 -- Assumes nothing.
-use Prim.Native.Nat.{ℕ, zero, suc, ◌+◌, ◌-◌, ◌≤◌}
+use Prim.Native.Nat.{ℕ, zero, suc, ◌-◌}
 use mathlib.Core.Path.{◌≡◌, refl, sym, ap, ◌∙◌}
 use mathlib.Core.Bool.{Bool, true}
 use mathlib.Core.List.{List, [], ◌∷◌, ◌++◌}
@@ -8,7 +8,6 @@ use native.Mathlib.Omega.{arith}
 use lib.ListN.{length, get_or, take, drop, length-drop, take-append-drop}
 use lib.Seq.{drop-cons, take_all, get_or-take, length-take-le}
 use Rattle.lists.specs.Lists.{Each, merge_by, Ascending}
-use Rattle.lists.proofs.Each.{each-drop}
 use Rattle.lists.proofs.Sorting.{Total}
 use Rattle.key_join.specs.Joins.{Joins}
 
@@ -35,7 +34,7 @@ module _ (leq : ℕ → ℕ → Bool) where
   goes_before (x ∷ xs) y ys e = simp e.0 (ap (λ (t : List ℕ). x ∷ t) (goes_before xs y ys e.1))
 
 module _ (leq : ℕ → ℕ → Bool) (l : List ℕ) (m : ℕ) (j : Joins leq m l) where
-  pub first_counted : m ≡ length (take m l)
+  first_counted : m ≡ length (take m l)
   first_counted = sym (length-take-le m l (omega (arith, j.others)))
 
   pub stands-joined : Total leq → leq (get_or l (m - 1) 0) (get_or l m 0) ≡ true → l ≡ merge_by leq (take m l) (drop m l)
@@ -44,17 +43,3 @@ module _ (leq : ℕ → ℕ → Bool) (l : List ℕ) (m : ℕ) (j : Joins leq m 
       let g = get_or-take m l (m - 1) 0 (omega (arith, j.some)) in
       let e = all-before leq o (take m l) (m - 1) (get_or l m 0) (omega (arith, first_counted, j.some)) j.ascends (rw g h) in
       sym (rw d (goes_before leq (take m l) (get_or l m 0) (drop (suc m) l) e) ∙ take-append-drop m l)
-
-  parts-long : length (take m l) + length (second l m) ≡ length l
-  parts-long = omega (arith, first_counted, ap length (second-all l m), length-drop m l, j.others)
-
-  -- what merge asks, and what is left when its list is copied back
-  pub second-read : (P : ℕ → Type 0) → Each P l → Each P (second l m)
-  second-read P e = rw (second-all l m) (each-drop P m l e)
-
-  pub parts-room : (t : List ℕ) → length l ≤ length t → length (take m l) + length (second l m) ≤ length t
-  parts-room t h = omega (arith, parts-long)
-
-  pub joined : (t r : List ℕ) → take (length (take m l) + length (second l m)) t ≡ merge_by leq (take m l) (second l m) → r ≡ take (length l) t
-      → r ≡ merge_by leq (take m l) (drop m l)
-  joined t r e c = c ∙ ap (λ (n : ℕ). take n t) (sym parts-long) ∙ e ∙ ap (merge_by leq (take m l)) (second-all l m)

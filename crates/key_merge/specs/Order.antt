@@ -3,8 +3,8 @@
 -- Assumes nothing: these are definitions.
 use Rattle.std.specs.Prelude.{ℕ, List}
 use Rattle.lists.specs.Lists.{Each}
-use Rattle.key.specs.declared.Kind.{Kind}
-use Rattle.key_hint.specs.Leading.{Hinted}
+use Rattle.key_hint.specs.declared.Keys.{Keys}
+use Rattle.key_hint.specs.Lent.{HasHint}
 
-abbrev pub AllHinted : Kind → List ℕ → List ℕ → List ℕ → List ℕ → Type 0
-AllHinted kind bytes list hints numbers = Each (Hinted kind bytes list hints) numbers
+abbrev pub AllHinted : Keys → List ℕ → Type 0
+AllHinted keys numbers = Each (HasHint keys) numbers

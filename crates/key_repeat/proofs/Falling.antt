@@ -1,20 +1,19 @@
 -- The lowest fall: what a turn of the pass shows, and that in the sorted order no key below it stands twice.
 -- Assumes nothing.
-use Prim.Native.Nat.{ℕ, zero, suc, ◌+◌, ◌-◌, ◌≤◌, ◌<◌}
+use Prim.Native.Nat.{ℕ, min, zero, suc, ◌-◌, ◌≤◌, ◌<◌}
 use mathlib.Core.Path.{◌≡◌, refl, sym, ap, ◌∙◌}
 use mathlib.Core.Bool.{Bool, true, false}
 use mathlib.Core.Logic.{⊎_elim}
 use mathlib.Core.List.{List, [], ◌∷◌}
-use native.Mathlib.Numerals.{add-one}
 use native.Mathlib.Nat.{eq-or-lt_of_le, le_of_suc-le-suc}
 use native.Mathlib.Omega.{arith}
-use borrow.Author.Tests.{lt-ltb, le-ltb, ltb-true, ltb-false}
+use borrow.Author.Tests.{ltb-true, ltb-false}
 use lib.Dec.{ltb}
-use lib.ListN.{length, get_or, replicate, length-replicate}
+use lib.ListN.{length, get_or}
 use Rattle.lists.proofs.Tests.{by-test}
 use Rattle.lists.specs.Lists.{lex_leq, sort_by, count_from, Ascending}
 use Rattle.key.specs.declared.Kind.{Kind}
-use Rattle.key.specs.Items.{Items, item_key}
+use Rattle.key.specs.Items.{item_key}
 use Rattle.key.specs.ItemOrder.{item_leq}
 use Rattle.lists.proofs.Arranged.{sort-permutes, sort-ascends}
 use Rattle.lists.proofs.Each.{each_of, counted-iff, count-length, each-permuted}
@@ -22,42 +21,30 @@ use Rattle.lists.proofs.Lex.{lex-refl}
 use Rattle.key.proofs.ItemOrder.{item-order}
 use Rattle.lists.proofs.Sorting.{Total, sort-length}
 use Rattle.key_sort.specs.Sorted.{Sorted}
-use Rattle.key_sort.proofs.Counting.{front, front_long}
 use Rattle.key_repeat.specs.Falls.{lower, lowest_fall, sorted_fall}
 
 -- ---- the pass
 
--- k numbers after the first have been looked at
-pub record Falling (leq : ℕ → ℕ → Bool) (numbers : List ℕ) (k least : ℕ) : Type 0 where
-  pub within : k ≤ length numbers - 1
-  pub told : least ≡ lowest_fall leq numbers k
-
 module _ (leq : ℕ → ℕ → Bool) (numbers : List ℕ) where
-  pub falling-start : Falling leq numbers 0 (length numbers)
+  pub none-passed : length numbers ≡ lowest_fall leq numbers 0
   unfolding lowest_fall
-  falling-start = record { within = omega arith; told = refl }
+  none-passed = refl
 
-  module _ (k least : ℕ) (f : Falling leq numbers k least) (h : k + 1 < length numbers) where
-    next : {x : ℕ} → x ≡ lower (leq (get_or numbers (k + 1) 0) (get_or numbers k 0)) (get_or numbers (k + 1) 0) least → Falling leq numbers (k + 1) x
+  -- the number at k, after those before it
+  module _ (j k least : ℕ) (s : k ≡ suc j) (told : least ≡ lowest_fall leq numbers j) where
+    next : {x : ℕ} → x ≡ lower (leq (get_or numbers k 0) (get_or numbers j 0)) (get_or numbers k 0) least → x ≡ lowest_fall leq numbers k
     unfolding lowest_fall
-    next e = record { within = omega arith; told = e ∙ rw (add-one, f.told) }
+    next e = e ∙ rw (s, told)
 
-    pub climbs-on : leq (get_or numbers (k + 1) 0) (get_or numbers k 0) ≡ false → Falling leq numbers (k + 1) least
+    pub climbs-on : leq (get_or numbers k 0) (get_or numbers j 0) ≡ false → least ≡ lowest_fall leq numbers k
     unfolding lower
     climbs-on e = next (rw e)
 
-    pub falls-lower : leq (get_or numbers (k + 1) 0) (get_or numbers k 0) ≡ true → get_or numbers (k + 1) 0 < least → Falling leq numbers (k + 1) (get_or numbers (k + 1) 0)
+    pub falls-here : leq (get_or numbers k 0) (get_or numbers j 0) ≡ true → min least (get_or numbers k 0) ≡ lowest_fall leq numbers k
     unfolding lower
-    falls-lower e l = next (rw (e, lt-ltb (get_or numbers (k + 1) 0) least l))
-
-    pub falls-higher : leq (get_or numbers (k + 1) 0) (get_or numbers k 0) ≡ true → least ≤ get_or numbers (k + 1) 0 → Falling leq numbers (k + 1) least
-    unfolding lower
-    falls-higher e l = next (rw (e, le-ltb (get_or numbers (k + 1) 0) least l))
-
-  pub falling-done : (k least : ℕ) → Falling leq numbers k least → length numbers ≤ k + 1 → least ≡ lowest_fall leq numbers (length numbers - 1)
-  falling-done k least f h =
-      let e : k ≡ length numbers - 1 = omega (arith, f.within) in
-      f.told ∙ ap (lowest_fall leq numbers) e
+    falls-here e = next (by-test (ltb (get_or numbers k 0) least)
+        (λ t. let l = ltb-true (get_or numbers k 0) least t in simp (e, t) (omega arith))
+        (λ f. let l = ltb-false (get_or numbers k 0) least f in simp (e, f) (omega arith)))
 
   -- ---- how low it is
 
@@ -176,16 +163,3 @@ pub sorted-falls : (kind : Kind) (bytes list : List ℕ) (n : ℕ) (hints number
     → {r : ℕ} → r ≡ lowest_fall (item_leq kind bytes list) numbers (length numbers - 1) → r ≡ sorted_fall (item_leq kind bytes list) n
 unfolding sorted
 sorted-falls kind bytes list n hints numbers s e = e ∙ rw s.sorted (sym (sorted-told (item_leq kind bytes list) n))
-
--- ---- the front of an array of m numbers, lent for n of them
-
-module _ (m n : ℕ) (h : n ≤ m) (kind : Kind) (bytes list : List ℕ) where
-  -- what the sort asks
-  pub lent-asks : Items kind bytes list n → m ≤ 65536
-      → Items kind bytes list (length (front m n)) × ((length (front m n) ≡ length (front m n)) × ((length (front m n) ≤ length {A = ℕ} (replicate m 0)) × (length (front m n) ≤ 65536)))
-  lent-asks i k =
-      let f = front_long m n h in
-      (rw f i, (refl, (omega (arith, f, length-replicate {A = ℕ} m 0), omega (arith, f))))
-
-  pub lent-fall : {r : ℕ} → r ≡ sorted_fall (item_leq kind bytes list) (length (front m n)) → r ≡ sorted_fall (item_leq kind bytes list) n
-  lent-fall e = rw (front_long m n h) at e

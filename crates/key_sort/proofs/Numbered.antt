@@ -12,7 +12,6 @@ use Rattle.key.specs.Items.{Items}
 use Rattle.key.specs.ItemOrder.{item_leq}
 use Rattle.key_hint.specs.Leading.{Hinted, Hints}
 use Rattle.key_hint.proofs.Hinting.{hinted}
-use Rattle.key_merge.specs.Order.{AllHinted}
 use Rattle.lists.proofs.Arranged.{each-sort}
 use Rattle.lists.proofs.Each.{counted-iff, count-length}
 use Rattle.lists.proofs.Sorting.{sort-length}
@@ -32,7 +31,7 @@ module _ (kind : Kind) (bytes list : List ℕ) (n : ℕ) where
       counted-long : length counted ≡ n
       counted-long = ap length c ∙ count-length 0 n
 
-      pub counted-hinted : Items kind bytes list n → AllHinted kind bytes list hints counted
+      pub counted-hinted : Items kind bytes list n → Each (Hinted kind bytes list hints) counted
       counted-hinted items = rw c ((counted-iff (Hinted kind bytes list hints) n).1 (hinted kind bytes list n hints (rw e at p) items))
 
       pub counted-room : (room : ℕ) → n ≤ room → length counted ≤ room
@@ -61,5 +60,5 @@ module _ (kind : Kind) (bytes list : List ℕ) (n : ℕ) where
     pub sorted-each : (P : ℕ → Type 0) → ((k : ℕ) → k < n → P k) → Each P numbers
     sorted-each P h = rw s.sorted (each-sort (item_leq kind bytes list) P (count_from 0 n) ((counted-iff P n).1 h))
 
-    pub sorted-hinted : Items kind bytes list n → AllHinted kind bytes list hints numbers
+    pub sorted-hinted : Items kind bytes list n → Each (Hinted kind bytes list hints) numbers
     sorted-hinted items = sorted-each (Hinted kind bytes list hints) (hinted kind bytes list n hints s.hinted items)

@@ -4,69 +4,56 @@
 ghost use Rattle.std.specs.Prelude.{◌≡◌, ◌≤◌, length};
 ghost use Rattle.lists.specs.Lists.{sort_by, count_from};
 ghost use Rattle.segment.specs.Format.{record_limit};
-ghost use Rattle.key.specs.Items.{Items};
-ghost use Rattle.key.specs.ItemOrder.{item_leq};
+ghost use Rattle.key.specs.Lent.{AllReadable, leq_in};
 ghost use Rattle.key_merge.specs.Order.{AllHinted};
-ghost use Rattle.key_sort.specs.Sorted.{Sorted};
+ghost use Rattle.key_sort.specs.Sorted.{SortedIn};
 
-use key::Kind;
+use key::Items;
+use key_ascending::keys_climb;
+use key_hint::{Keys, put_hints};
+use key_join::join;
 
 // 0, 1, 2 and so on.
 fn count_up(numbers: &mut [u16])
     requires { length numbers.old ≤ record_limit }
     ensures { numbers.new ≡ count_from 0 (length numbers.old) }
 {
-    let mut k = 0;
-    while k < numbers.len() {
-        numbers[k] = k as u16;
-        k += 1;
+    for (k, number) in numbers.iter_mut().enumerate() {
+        *number = k as u16;
     }
 }
 
 // Sorts item numbers by their items' keys; those of equal keys stay in the order in which they stand. Each half is sorted, and
 // the two are joined with the help of the spare numbers, so that n numbers take n log n steps and log n calls inside each other.
-fn sort(
-    kind: Kind,
-    bytes: &[u8],
-    list: &[u64],
-    hints: &[u32],
-    numbers: &mut [u16],
-    spare: &mut [u16],
-)
-    requires all_hinted { AllHinted kind bytes.now list.now hints.now numbers.old }
+fn sort(keys: Keys, numbers: &mut [u16], spare: &mut [u16])
+    requires all_hinted { AllHinted keys numbers.old }
     requires numbers_in_bounds { length numbers.old ≤ length spare.old }
-    ensures { numbers.new ≡ sort_by (item_leq kind bytes.now list.now) numbers.old }
+    ensures { numbers.new ≡ sort_by (leq_in keys.entry.items) numbers.old }
 {
     let n = numbers.len();
     if n < 2 {
         return;
     }
     let m = n / 2;
-    sort(kind, bytes, list, hints, &mut numbers[..m], spare);
-    sort(kind, bytes, list, hints, &mut numbers[m..], spare);
-    key_join::join(kind, bytes, list, hints, numbers, m, spare);
+    let (left, right) = numbers.split_at_mut(m);
+    sort(keys, left, spare);
+    sort(keys, right, spare);
+    join(keys, numbers, m, spare);
 }
 
 // The numbers of as many items as there is room for, sorted by the items' keys; and the items' hints, which are left to compare by. Where
 // the keys climb already, as those of a tidy segment do, there is nothing to sort.
-pub fn sorted(
-    kind: Kind,
-    bytes: &[u8],
-    list: &[u64],
-    hints: &mut [u32],
-    numbers: &mut [u16],
-    spare: &mut [u16],
-)
-    requires items { Items kind bytes.now list.now (length numbers.old) }
+pub fn sorted(items: Items, hints: &mut [u32], numbers: &mut [u16], spare: &mut [u16])
+    requires items { AllReadable items (length numbers.old) }
     requires hints_len { length hints.old ≡ length numbers.old }
     requires numbers_in_bounds { length numbers.old ≤ length spare.old }
     requires numbers_len_bound { length numbers.old ≤ record_limit }
-    ensures { Sorted kind bytes.now list.now (length numbers.old) hints.new numbers.new }
+    ensures { SortedIn items.entry (length numbers.old) hints.new numbers.new }
 {
-    key_hint::put_hints(kind, bytes, list, hints);
+    put_hints(items, hints);
     count_up(numbers);
-    if key_ascending::keys_climb(kind, bytes, list, numbers.len()) {
+    if keys_climb(items, numbers.len()) {
         return;
     }
-    sort(kind, bytes, list, hints, numbers, spare);
+    sort(Keys { items, hints }, numbers, spare);
 }

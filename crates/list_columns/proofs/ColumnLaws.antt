@@ -6,18 +6,19 @@ use mathlib.Core.List.{List, ◌++◌, append_assoc}
 use Rattle.answer.specs.declared.Refusal.{Refusal}
 use Rattle.answer.specs.Answers.{number_of, place_of}
 use Rattle.segment.specs.declared.extent.Extent.{Extent}
-use Rattle.list_digits.specs.Digits.{ascii, decimal, Appended}
-use Rattle.list_digits.proofs.TextLaws.{appended, retold}
+use Rattle.list_digits.specs.declared.Text.{Text}
+use Rattle.list_digits.specs.Digits.{ascii, decimal, Puts}
+use Rattle.list_digits.proofs.TextLaws.{puts_both, puts_as}
 use Rattle.list_columns.specs.Listing.{cell, last, extent_line, refusal_line}
 use Rattle.list_columns.specs.Columns.{slice_cells}
 
-module _ {m₁ m₂ : ℕ} {s t u : List ℕ} {at p q : ℕ} {xs ys : List ℕ} (a : Appended m₁ s at xs t p) (b : Appended m₂ t p ys u q) where
-  pub two : (n : ℕ) → m₁ + m₂ ≤ n → Appended n s at (xs ++ ys) u q
-  two n h = retold (appended a b) refl h
+module _ {m₁ m₂ : ℕ} {s t u : Text} {xs ys : List ℕ} (a : Puts m₁ s xs t) (b : Puts m₂ t ys u) where
+  pub two : (n : ℕ) → m₁ + m₂ ≤ n → Puts n s (xs ++ ys) u
+  two n h = puts_as (puts_both a b) refl h
 
-  module _ {m₃ : ℕ} {v : List ℕ} {r : ℕ} {zs : List ℕ} (c : Appended m₃ u q zs v r) where
-    pub three : (n : ℕ) → m₁ + m₂ + m₃ ≤ n → Appended n s at (xs ++ ys ++ zs) v r
-    three n h = retold (appended (appended a b) c) refl h
+  module _ {m₃ : ℕ} {v : Text} {zs : List ℕ} (c : Puts m₃ u zs v) where
+    pub three : (n : ℕ) → m₁ + m₂ + m₃ ≤ n → Puts n s (xs ++ ys ++ zs) v
+    three n h = puts_as (puts_both (puts_both a b) c) refl h
 
 pub extent-line : (k j : ℕ) (e : Extent) → cell (decimal k) ++ cell (decimal j) ++ slice_cells e ≡ extent_line k j e
 unfolding extent_line slice_cells

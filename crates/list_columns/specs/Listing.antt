@@ -5,12 +5,10 @@
 --   listed        what is written of a table and a segment
 --   written       what the program writes of its input
 -- Assumes nothing: these are definitions.
-use Rattle.std.specs.Prelude.{ℕ, suc, cond, List, [], ◌∷◌, ◌++◌, ltb, eqb, length}
+use Rattle.std.specs.Prelude.{ℕ, suc, cond, List, [], ◌∷◌, ◌++◌, ltb, eqb, length, None, Some}
 use Rattle.answer.specs.declared.Refusal.{Refusal}
-use Rattle.answer.specs.declared.Source.{Source}
-use Rattle.answer.specs.declared.Source.TheVariants.{None, Domain}
 use Rattle.answer.specs.Rules.{after}
-use Rattle.answer.specs.Answers.{number_of, place_of}
+use Rattle.answer.specs.Answers.{number_of, place_of, Source}
 use Rattle.segment.specs.declared.extent.Extent.{Extent}
 use Rattle.segment.specs.Format.{v3}
 use Rattle.segment.specs.Check.{sum_lengths, checked}
@@ -42,7 +40,7 @@ visibility_word visibility = cond (eqb visibility 0) (ascii "internal") (ascii "
 
 abbrev pub source_word : Source → List ℕ
 source_word None = ascii "-"
-source_word (Domain d) = decimal d
+source_word (Some d) = decimal d
 
 -- ---- lines
 

@@ -9,21 +9,14 @@ use native.Mathlib.Omega.{arith}
 use borrow.Author.Tests.{ltb-true, ltb-false}
 use borrow.Rule.Slice.PartMut.{put_mid}
 use lib.Dec.{lit<, ltb}
-use lib.ListN.{length, take, drop, set, get_or, length-append, length-set}
+use lib.ListN.{length, take, drop, set, get_or, length-append}
 use lib.Seq.{take-suc, take_all, drop-drop, length-take-le, sets-eq}
 use Rattle.io.specs.Digits.{hex_digit_ascii, last_digits, IsDigitCount}
 use Rattle.numbers.specs.Numbers.{put}
 use Rattle.numbers.proofs.NumberLaws.{put-put, length-put, put-none, set-put}
 use Rattle.lists.proofs.Tests.{tests, by-test}
-use Rattle.list_digits.specs.Digits.{decimal_in, decimal, hex, Appended}
-
--- ---- a digit
-
-pub low_digit : (d : ℕ) → d < 10 → 48 + d ≡ hex_digit_ascii d
-low_digit d h = simp tests
-
-pub high_digit : (d : ℕ) → 10 ≤ d → 87 + d ≡ hex_digit_ascii d
-high_digit d h = simp tests
+use Rattle.list_digits.specs.declared.Text.{Text}
+use Rattle.list_digits.specs.Digits.{decimal_in, decimal, hex, Appended, Puts}
 
 -- ---- decimal digits
 
@@ -63,11 +56,6 @@ unfolding hex
 hex-append [] ys = refl
 hex-append (x ∷ xs) ys = ap (λ (d : List ℕ). hex_digit_ascii (x / 16) ∷ hex_digit_ascii (x % 16) ∷ d) (hex-append xs ys)
 
-hex-length : (xs : List ℕ) → length (hex xs) ≡ 2 * length xs
-unfolding hex
-hex-length [] = refl
-hex-length (x ∷ xs) = omega (arith, hex-length xs)
-
 -- ---- two stores, and a word
 
 two-stores : (s : List ℕ) (k v w : ℕ) → k + 1 < length s → set (set s k v) (k + 1) w ≡ put s k (v ∷ w ∷ [])
@@ -106,6 +94,25 @@ retold {m} {n} {s} {t} {at} {p} {xs} {ys} a e h =
       short = omega (arith, a.short);
     }
 
+-- nothing put
+pub nothing : (m : ℕ) (s : List ℕ) (at : ℕ) → at ≤ length s → Appended m s at [] s at
+nothing m s at h = record { same = sym (put-none s at); stops = omega arith; fits = omega arith; short = omega arith }
+
+-- ---- the same of a text
+
+module _ {m : ℕ} {s t : Text} {xs : List ℕ} where
+  pub puts_of : t.out.ghost_name ≡ s.out.ghost_name → Appended m s.out.now s.at xs t.out.now t.at → Puts m s xs t
+  puts_of r a = record { same_reference = r; same_length = ap length a.same ∙ length-put s.out.now s.at xs a.fits; put = a }
+
+  pub puts_as : {n : ℕ} {ys : List ℕ} → Puts m s xs t → xs ≡ ys → m ≤ n → Puts n s ys t
+  puts_as a e h = record { same_reference = a.same_reference; same_length = a.same_length; put = retold a.put e h }
+
+  pub puts_both : {n : ℕ} {u : Text} {ys : List ℕ} → Puts m s xs t → Puts n t ys u → Puts (m + n) s (xs ++ ys) u
+  puts_both a b = record { same_reference = b.same_reference ∙ a.same_reference; same_length = b.same_length ∙ a.same_length; put = appended a.put b.put }
+
+pub puts_none : (m : ℕ) (t : Text) → t.at ≤ length t.out.now → Puts m t [] t
+puts_none m t h = puts_of refl (nothing m t.out.now t.at h)
+
 -- the byte behind what was put
 pub closed : (s : List ℕ) (at : ℕ) (xs : List ℕ) (end : ℕ) (t : List ℕ) (stop : ℕ) → t ≡ put s at xs → stop ≡ at + length xs → at + length xs < length s
     → Appended (length xs + 1) s at (xs ++ (end ∷ [])) (set t stop end) (stop + 1)
@@ -128,7 +135,7 @@ few-digits n k h f =
 
 -- a number that io spelled
 module _ (n k : ℕ) (text : List ℕ) (h : n < 18446744073709551616) (f : IsDigitCount 10 1 n k) (e : take k text ≡ last_digits 10 k n) (w : k ≤ length text) where
-  pub word-short : length (take k text) ≤ 20
+  word-short : length (take k text) ≤ 20
   word-short = omega (arith, length-take-le k text w, few-digits n k h f)
 
   pub spelled-word : (s : List ℕ) (at end : ℕ) (t : List ℕ) (stop : ℕ) → Appended (length (take k text) + 1) s at (take k text ++ (end ∷ [])) t stop
@@ -139,47 +146,29 @@ module _ (n k : ℕ) (text : List ℕ) (h : n < 18446744073709551616) (f : IsDig
 -- ---- the loop over bytes
 
 -- i bytes are spelled
-pub record Spelling (digest before : List ℕ) (at i : ℕ) (out : List ℕ) (stop : ℕ) : Type 0 where
-  pub within : i ≤ length digest
-  pub same : out ≡ put before at (hex (take i digest))
-  pub stops : stop ≡ at + 2 * i
-  pub long : length out ≡ length before
+pub record Spelling (digest : List ℕ) (old : Text) (i : ℕ) (new : Text) : Type 0 where
+  pub puts : Puts (2 * i) old (hex (take i digest)) new
+  pub stops : new.at ≡ old.at + 2 * i
 
-pub spelling-start : (digest before : List ℕ) (at : ℕ) → at + 2 * length digest < length before → Spelling digest before at 0 before at
+pub spelling-start : (digest : List ℕ) (t : Text) → t.at ≤ length t.out.now → Spelling digest t 0 t
 unfolding hex
-spelling-start digest before at h = record { within = omega arith; same = sym (put-none before at); stops = omega arith; long = refl }
+spelling-start digest t h = record { puts = puts_none 0 t h; stops = omega arith }
 
-module _ (digest before : List ℕ) (at i : ℕ) (out : List ℕ) (stop : ℕ) (v : Spelling digest before at i out stop) (h : at + 2 * length digest < length before) where
-  so-long : length (hex (take i digest)) ≡ 2 * i
-  so-long = hex-length (take i digest) ∙ ap (λ (n : ℕ). 2 * n) (length-take-le i digest v.within)
-
-  pub spelling-more : (a b : ℕ) → i < length digest → a ≡ hex_digit_ascii (get_or digest i 0 / 16) → b ≡ hex_digit_ascii (get_or digest i 0 % 16)
-      → Spelling digest before at (i + 1) (set (set out stop a) (stop + 1) b) (stop + 2)
+module _ (digest before : List ℕ) (at i : ℕ) (out : List ℕ) (stop : ℕ) (v : Appended (2 * i) before at (hex (take i digest)) out stop) where
+  pub spelling-more : (a b : ℕ) → i < length digest → stop + 1 < length out → a ≡ hex_digit_ascii (get_or digest i 0 / 16) → b ≡ hex_digit_ascii (get_or digest i 0 % 16)
+      → Appended (2 * (i + 1)) before at (hex (take (i + 1) digest)) (set (set out stop a) (stop + 1) b) (stop + 2)
   unfolding hex
-  spelling-more a b l p q =
-      let two : List ℕ = a ∷ b ∷ [] in
-      let e : hex (take (i + 1) digest) ≡ hex (take i digest) ++ two =
-      rw (add-one, take-suc digest i 0 l, hex-append, p, q) in
-      let z : stop ≡ at + length (hex (take i digest)) = omega (arith, so-long, v.stops) in
-      record {
-        within = omega arith;
-        same = two-stores out stop a b (omega (arith, v.long, v.stops)) ∙ rw (v.same, z, e) (put-put before at (hex (take i digest)) two (omega (arith, so-long, v.within)));
-        stops = omega (arith, v.stops);
-        long = simp length-set v.long;
-      }
+  spelling-more a b l h p q =
+      let e : hex (take i digest) ++ (a ∷ b ∷ []) ≡ hex (take (i + 1) digest) = rw (add-one, take-suc digest i 0 l, hex-append, p, q) refl in
+      let two : Appended 2 out stop (a ∷ b ∷ []) (set (set out stop a) (stop + 1) b) (stop + 2) = record { same = two-stores out stop a b h; stops = omega arith; fits = omega arith; short = omega arith } in
+      retold (appended v two) e (omega arith)
 
-  pub spelling-done : (end : ℕ) → length digest ≤ i → Appended (2 * length digest + 1) before at (hex digest ++ (end ∷ [])) (set out stop end) (stop + 1)
-  spelling-done end l =
-      let t : take i digest ≡ digest = take_all i digest l in
-      let n : i ≡ length digest = omega (arith, v.within) in
-      retold
-      (closed before at (hex (take i digest)) end out stop v.same (omega (arith, so-long, v.stops)) (omega (arith, so-long)))
-      (ap (λ (d : List ℕ). hex d ++ (end ∷ [])) t)
-      (omega (arith, so-long))
-
--- nothing put
-pub nothing : (m : ℕ) (s : List ℕ) (at : ℕ) → at ≤ length s → Appended m s at [] s at
-nothing m s at h = record { same = sym (put-none s at); stops = omega arith; fits = omega arith; short = omega arith }
+  pub spelling-done : (end : ℕ) → i ≡ length digest → stop < length out
+      → Appended (2 * length digest + 1) before at (hex digest ++ (end ∷ [])) (set out stop end) (stop + 1)
+  spelling-done end l h =
+      let t : take i digest ≡ digest = take_all i digest (omega arith) in
+      let last : Appended 1 out stop (end ∷ []) (set out stop end) (stop + 1) = closed out stop [] end out stop (sym (put-none out stop)) (omega arith) (omega arith) in
+      retold (appended v last) (ap (λ (d : List ℕ). hex d ++ (end ∷ [])) t) (omega arith)
 
 -- where it ends is inside
 pub stop-within : {m : ℕ} {s t : List ℕ} {at p : ℕ} {xs : List ℕ} → Appended m s at xs t p → p ≤ length t

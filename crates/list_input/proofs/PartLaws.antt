@@ -2,32 +2,33 @@
 -- Assumes nothing.
 use Prim.Native.Nat.{ℕ, ◌+◌, ◌≤◌, ◌<◌}
 use mathlib.Core.Path.{◌≡◌, refl, sym, ap, ap₂, subst, ◌∙◌}
-use mathlib.Core.Bool.{Bool, true, false}
+use mathlib.Core.Bool.{Bool, true, false, cond}
 use mathlib.Core.List.{List, [], ◌++◌, append-nil}
 use native.Mathlib.Omega.{arith}
 use borrow.Author.Tests.{ltb-true, ltb-false}
 use lib.Dec.{ltb}
 use lib.ListN.{length, take, drop}
 use lib.Seq.{take_at}
+use Rattle.std.specs.Prelude.{Err, Ok}
+use Rattle.answer.specs.Rules.{Verdict, accepted}
 use Rattle.lists.proofs.Tests.{by-test, tests}
 use Rattle.answer.specs.declared.Refusal.{Refusal}
-use Rattle.answer.specs.declared.Verdict.{Verdict}
-use Rattle.answer.specs.declared.Verdict.TheVariants.{Accepted, Refused}
 use Rattle.answer.specs.Answers.{check_answer}
 use Rattle.answer.proofs.Settled.{check-settled}
 use Rattle.segment.specs.Format.{v3}
 use Rattle.segment.specs.Check.{checked, check_of}
 use Rattle.segment.specs.Meaning.{Meaning, meaning_of}
 use Rattle.numbers.specs.Numbers.{put}
-use Rattle.list_digits.specs.Digits.{ascii, Appended}
-use Rattle.list_digits.proofs.TextLaws.{retold, nothing}
+use Rattle.list_digits.specs.declared.Text.{Text}
+use Rattle.list_digits.specs.Digits.{ascii, Puts}
+use Rattle.list_digits.proofs.TextLaws.{retold, puts_as, puts_none}
 use Rattle.list_columns.specs.Listing.{last, refusal_line, listing, listed, table_listed, most_listed, written}
 use Rattle.list_place.specs.declared.Place.{Place}
 use Rattle.list_place.specs.declared.Place.TheVariants.{RecordCount, RecordLine, ExtentCount, ExtentLine, Done}
 use Rattle.list_place.specs.Pieces.{Piece, piece, is_first, is_done, longest_line, pieces_from, filled, text_from}
 use Rattle.list_place.proofs.Pieces.{step, nothing_left, filled-done, filled-text, filled_on}
-use Rattle.list_line.specs.declared.Stop.{Stop}
-use Rattle.list_line.specs.Stopped.{Stopped}
+use Rattle.list_text.specs.declared.Stop.{Stop}
+use Rattle.list_text.specs.Stopped.{Stopped}
 use Rattle.list_input.specs.Parts.{only, only_piece, part_at, left_at, Part}
 
 module _ (s : List ℕ) where
@@ -45,11 +46,11 @@ module _ (s : List ℕ) where
     unfolding written
     written-whole = simp tests
 
-    pub written-refused : (r : Refusal) → checked table_listed s ≡ Refused r → written s ≡ refusal_line r
+    pub written-refused : (r : Refusal) → checked table_listed s ≡ Err r → written s ≡ refusal_line r
     unfolding listed
     written-refused r e = written-whole ∙ rw e
 
-    pub written_listed : checked table_listed s ≡ Accepted → written s ≡ listing m
+    pub written_listed : checked table_listed s ≡ accepted → written s ≡ listing m
     unfolding listed
     written_listed e = written-whole ∙ rw e
 
@@ -60,11 +61,11 @@ module _ (s : List ℕ) where
   left-long p h = rw (written-long h) (simp tests)
 
   module _ (h : length s ≤ most_listed) where
-    left-refused : (p : Place) (r : Refusal) → checked table_listed s ≡ Refused r → left_at s p ≡ only (refusal_line r) p
+    left-refused : (p : Place) (r : Refusal) → checked table_listed s ≡ Err r → left_at s p ≡ only (refusal_line r) p
     unfolding left_at
     left-refused p r e = rw (written-refused h r e, e) (simp tests)
 
-    left-listed : (p : Place) → checked table_listed s ≡ Accepted → left_at s p ≡ text_from m p
+    left-listed : (p : Place) → checked table_listed s ≡ accepted → left_at s p ≡ text_from m p
     unfolding left_at text_from
     left-listed RecordCount e = written_listed h e
     left-listed (RecordLine k) e = rw e (simp tests)
@@ -84,11 +85,11 @@ module _ (s : List ℕ) where
       unfolding part_at
       part-long l = simp tests
 
-      pub part-refused : length s ≤ most_listed → (r : Refusal) → checked table_listed s ≡ Refused r → part_at s p room ≡ only_piece (refusal_line r) p
+      pub part-refused : length s ≤ most_listed → (r : Refusal) → checked table_listed s ≡ Err r → part_at s p room ≡ only_piece (refusal_line r) p
       unfolding part_at
       part-refused l r e = rw e (simp tests)
 
-      pub part-listed : length s ≤ most_listed → checked table_listed s ≡ Accepted → part_at s p room ≡ filled m p room
+      pub part-listed : length s ≤ most_listed → checked table_listed s ≡ accepted → part_at s p room ≡ filled m p room
       unfolding part_at
       part-listed l e = rw e (simp tests)
 
@@ -97,8 +98,8 @@ module _ (s : List ℕ) where
           (line : (l : List ℕ) → ((q : Place) → left_at s q ≡ only l q) → P (only_piece l p))
           (lines : ((q : Place) → left_at s q ≡ text_from m q) → P (filled m p room)) where
         by-verdict : length s ≤ most_listed → (v : Verdict) → checked table_listed s ≡ v → P (part_at s p room)
-        by-verdict l Accepted e = subst P (sym (part-listed l e)) (lines (λ q. left-listed l q e))
-        by-verdict l (Refused r) e = subst P (sym (part-refused l r e)) (line (refusal_line r) (λ q. left-refused l q r e))
+        by-verdict l (Ok _) e = subst P (sym (part-listed l e)) (lines (λ q. left-listed l q e))
+        by-verdict l (Err r) e = subst P (sym (part-refused l r e)) (line (refusal_line r) (λ q. left-refused l q r e))
 
         by-input : P (part_at s p room)
         by-input =
@@ -142,15 +143,21 @@ module _ (s : List ℕ) where
 
 -- ---- one line alone, by whether the place is the first
 
-module _ (line : List ℕ) (p : Place) (b : Bool) (e : b ≡ is_first p) (before : List ℕ) where
-  pub only-first : b ≡ true → (n : ℕ) → n ≤ 53 → (after : List ℕ) (end : ℕ) → Appended n before 0 line after end
-      → Stopped 53 (only_piece line p) before 0 after (record { next = Done; end = end })
+module _ (line : List ℕ) (p : Place) (b : Bool) (e : b ≡ is_first p) where
+  by-first : (s t : Text) → Puts 53 s (cond b line []) t → (after : List ℕ) → after ≡ t.out.now
+      → Stopped 53 (only_piece line p) s.out.now s.at after (record { next = Done; end = t.at })
   unfolding only_piece
-  only-first t n h after end a = rw (sym e ∙ t) (record { put = retold a refl h; next = refl })
+  by-first s t v after back =
+      let a = v.put in
+      rw (sym e) (record { put = record { same = back ∙ a.same; stops = a.stops; fits = a.fits; short = a.short }; next = refl })
 
-  pub only-later : b ≡ false → Stopped 53 (only_piece line p) before 0 before (record { next = Done; end = 0 })
-  unfolding only_piece
-  only-later f = rw (sym e ∙ f) (record { put = nothing 53 before 0 (omega arith); next = refl })
+  pub only-first : b ≡ true → {n : ℕ} {s t u : Text} → Puts n s line t → n ≤ 53 → u ≡ t → (after : List ℕ) → after ≡ u.out.now
+      → Stopped 53 (only_piece line p) s.out.now s.at after (record { next = Done; end = u.at })
+  only-first f {s = s} {u = u} v h same = by-first s u (rw (f, same) (puts_as v refl h))
+
+  pub only-later : b ≡ false → {s u : Text} → u ≡ s → s.at ≤ length s.out.now → (after : List ℕ) → after ≡ u.out.now
+      → Stopped 53 (only_piece line p) s.out.now s.at after (record { next = Done; end = u.at })
+  only-later f {s} {u} same h = by-first s u (rw (f, same) (puts_none 53 s h))
 
 -- ---- what check answered
 

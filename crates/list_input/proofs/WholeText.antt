@@ -17,7 +17,7 @@ use Rattle.list_place.specs.declared.Place.{Place}
 use Rattle.list_place.specs.declared.Place.TheVariants.{RecordCount, Done}
 use Rattle.list_place.specs.Pieces.{is_done, pieces_from}
 use Rattle.list_place.proofs.Pieces.{step, done}
-use Rattle.list_line.specs.declared.Stop.{Stop}
+use Rattle.list_text.specs.declared.Stop.{Stop}
 use Rattle.list_input.specs.Parts.{part_at, left_at, Part, Wide, calls}
 use Rattle.list_input.proofs.PartLaws.{written-long, part-on, part-over, part_left, left-done}
 

@@ -15,8 +15,8 @@ use Rattle.list_columns.specs.Listing.{last, refusal_line, table_listed, most_li
 use Rattle.list_place.specs.declared.Place.{Place}
 use Rattle.list_place.specs.declared.Place.TheVariants.{Done}
 use Rattle.list_place.specs.Pieces.{Piece, piece, is_first, longest_line, behind, filled, text_from}
-use Rattle.list_line.specs.declared.Stop.{Stop}
-use Rattle.list_line.specs.Stopped.{Stopped}
+use Rattle.list_text.specs.declared.Stop.{Stop}
+use Rattle.list_text.specs.Stopped.{Stopped}
 
 -- ---- an input that is not listed has one line, at the first place
 

@@ -5,15 +5,15 @@
 ghost use Rattle.std.specs.Prelude.{◌≤◌, length};
 ghost use Rattle.list_digits.specs.Digits.{ascii};
 ghost use Rattle.list_columns.specs.Listing.{last, refusal_line};
-ghost use Rattle.list_line.specs.Stopped.{Stopped};
+ghost use Rattle.list_text.specs.Stopped.{Stopped};
 ghost use Rattle.list_input.specs.Parts.{only_piece, Part};
 
-use answer::{Refusal, Verdict};
+use answer::Refusal;
 use checksum::Engine;
 use list_columns::NEWLINE;
-use list_line::Stop;
+use list_digits::Text;
 use list_place::Place;
-use list_text::LONGEST;
+use list_text::{LONGEST, Stop};
 
 // The most that is listed.
 const MOST: usize = 65536;
@@ -26,34 +26,29 @@ fn put_long(place: Place, out: &mut [u8]) -> Stop
     requires { 53 ≤ length out.old }
     ensures { Stopped 53 (only_piece (last (ascii "too long")) place) out.old 0 out.new result }
 {
-    if list_place::is_first(place) {
-        let end = list_digits::put_word(b"too long", NEWLINE, 0, out);
-        return Stop {
-            next: Place::Done,
-            end,
-        };
+    let mut text = Text { out, at: 0 };
+    if place.is_first() {
+        text.put_word(b"too long", NEWLINE);
     }
     Stop {
         next: Place::Done,
-        end: 0,
+        end: text.at,
     }
 }
 
-// The line of a refused input, which stands at the first place.
+// The line of a refused input, which stands at the first place. One function for this and the last would be lent the putting as a
+// closure, with a contract on it, and be longer.
 fn put_refused(r: Refusal, place: Place, out: &mut [u8]) -> Stop
     requires { 53 ≤ length out.old }
     ensures { Stopped 53 (only_piece (refusal_line r) place) out.old 0 out.new result }
 {
-    if list_place::is_first(place) {
-        let end = list_columns::put_refusal(r, 0, out);
-        return Stop {
-            next: Place::Done,
-            end,
-        };
+    let mut text = Text { out, at: 0 };
+    if place.is_first() {
+        list_columns::put_refusal(&mut text, r);
     }
     Stop {
         next: Place::Done,
-        end: 0,
+        end: text.at,
     }
 }
 
@@ -73,7 +68,7 @@ pub fn more(input: &[u8], place: Place, out: &mut [u8]) -> Stop
     }
     let table = [1u64, 32, 7, 4];
     match check_segment::check_by(Engine::Fast, &table, input) {
-        Verdict::Refused(r) => put_refused(r, place, out),
-        Verdict::Accepted => list_text::fill(input, place, out),
+        Err(r) => put_refused(r, place, out),
+        Ok(()) => list_text::fill(input, place, out),
     }
 }

@@ -1,1 +1,1 @@
-pub mod Stopped
+pub mod PutsPiece

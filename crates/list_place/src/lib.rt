@@ -16,26 +16,16 @@ pub enum Place {
     Done,
 }
 
-pub fn is_first(place: Place) -> bool
-    ensures { result ≡ is_first place }
-{
-    match place {
-        Place::RecordCount => true,
-        Place::RecordLine(_) => false,
-        Place::ExtentCount => false,
-        Place::ExtentLine(_, _) => false,
-        Place::Done => false,
+impl Place {
+    pub fn is_first(self) -> bool
+        ensures { result ≡ is_first self }
+    {
+        matches!(self, Place::RecordCount)
     }
-}
 
-pub fn is_done(place: Place) -> bool
-    ensures { result ≡ is_done place }
-{
-    match place {
-        Place::RecordCount => false,
-        Place::RecordLine(_) => false,
-        Place::ExtentCount => false,
-        Place::ExtentLine(_, _) => false,
-        Place::Done => true,
+    pub fn is_done(self) -> bool
+        ensures { result ≡ is_done self }
+    {
+        matches!(self, Place::Done)
     }
 }

@@ -1,31 +1,31 @@
-// A record's line of the listing, put at a place of a lent run of bytes. Each function is told that there is room for the longest
-// such part of the line, and answers the place after it.
+// A record's line of the listing. Each function is told that there is room for the longest such part of the line.
 #![tactic(auto)]
 
-ghost use Rattle.std.specs.Prelude.{◌++◌, ◌+◌, ◌≤◌, length};
-ghost use Rattle.list_digits.specs.Digits.{decimal, hex, Appended};
+ghost use Rattle.std.specs.Prelude.{◌++◌, ◌≤◌, length};
+ghost use Rattle.list_digits.specs.Digits.{decimal, hex, Room, Puts};
 ghost use Rattle.list_columns.specs.Listing.{cell};
 ghost use Rattle.list_columns.specs.Columns.{record_cells};
 
 use list_columns::{BLANK, NEWLINE};
+use list_digits::Text;
 use segment::record::Record;
 
-fn put_identity(k: usize, hash: u32, digest: &[u8], at: usize, out: &mut [u8]) -> usize
+fn put_identity(text: &mut Text<'_>, k: usize, hash: u32, digest: &[u8])
     requires digest_len_bound { length digest.now ≤ 1024 }
-    requires at_in_bounds { at + 2091 ≤ length out.old }
-    ensures { Appended 2091 out.old at (cell (decimal k) ++ cell (decimal hash) ++ cell (hex digest.now)) out.new result }
+    requires room { Room 2091 text.old }
+    ensures { Puts 2091 text.old (cell (decimal k) ++ cell (decimal hash) ++ cell (hex digest.now)) text.new }
 {
-    let p1 = list_columns::put_pair(k as u64, hash as u64, BLANK, at, out);
-    list_digits::put_hex(digest, BLANK, p1, out)
+    list_columns::put_pair(text, k as u64, u64::from(hash), BLANK);
+    text.put_hex(digest, BLANK);
 }
 
 // The line of record k.
-pub fn put_record(k: usize, r: Record, digest: &[u8], at: usize, out: &mut [u8]) -> usize
+pub fn put_record(text: &mut Text<'_>, k: usize, r: Record, digest: &[u8])
     requires digest_len_bound { length digest.now ≤ 1024 }
-    requires at_in_bounds { at + 2169 ≤ length out.old }
-    ensures { Appended 2169 out.old at (record_cells k r digest.now) out.new result }
+    requires room { Room 2169 text.old }
+    ensures { Puts 2169 text.old (record_cells k r digest.now) text.new }
 {
-    let p1 = put_identity(k, r.hash_id, digest, at, out);
-    let p2 = list_state::put_standing(r, p1, out);
-    list_columns::put_pair(r.total_length, r.extent_count as u64, NEWLINE, p2, out)
+    put_identity(text, k, r.hash_id, digest);
+    list_state::put_standing(text, r);
+    list_columns::put_pair(text, r.total_length, u64::from(r.extent_count), NEWLINE);
 }

@@ -6,12 +6,19 @@ ghost use Rattle.segment.specs.Format.{v3, header_of};
 ghost use Rattle.segment.specs.Meaning.{meaning_of};
 ghost use Rattle.check_book.specs.Readable.{Readable};
 ghost use Rattle.list_place.specs.Pieces.{filled};
-ghost use Rattle.list_line.specs.Stopped.{Stopped};
+ghost use Rattle.list_text.specs.Stopped.{Stopped};
 
-use list_line::Stop;
+use list_digits::Text;
 use list_place::Place;
 use segment::header::Header;
 use segment::shape::Shape;
+
+// Where the listing goes on, and where in the output.
+#[derive(Clone, Copy)]
+pub struct Stop {
+    pub next: Place,
+    pub end: usize,
+}
 
 // A record's line with a digest of 1,024 bytes, and twenty digits in each number.
 pub const LONGEST: usize = 2169;
@@ -23,15 +30,11 @@ pub fn fill(seg: &[u8], place: Place, out: &mut [u8]) -> Stop
         out.old 0 out.new result }
 {
     let h = Header::of(seg);
+    let mut text = Text { out, at: 0 };
     let mut next = place;
-    let mut end = 0;
-    while LONGEST <= out.len() - end {
-        if list_place::is_done(next) {
-            return Stop { next, end };
-        }
-        let stop = list_line::put_piece(Shape::V3, seg, h, next, end, out);
-        next = stop.next;
-        end = stop.end;
+    // no count is kept: it goes on from place to place, until the end or until a longest line has no room
+    while LONGEST <= text.out.len() - text.at && !next.is_done() {
+        next = list_line::put_piece(&mut text, Shape::V3, seg, h, next);
     }
-    Stop { next, end }
+    Stop { next, end: text.at }
 }

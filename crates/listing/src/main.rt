@@ -2,40 +2,25 @@
 // input that could not be read to its end is not listed: one line on standard error says why.
 #![tactic(auto)]
 
-ghost use Rattle.std.specs.Prelude.{◌≡◌, ◌≤◌, ◌-◌, length, IfOk};
-ghost use Rattle.listing.specs.Reading.{Within};
+ghost use Rattle.std.specs.Prelude.{◌≡◌, ◌≤◌, length, IfOk};
 
 use list_place::Place;
-use std::io;
-use std::io::{Read, Write};
-
-#[derive(Drop)]
-enum Input {
-    Read(usize),
-    Failed(io::Error),
-}
-
-// One read behind what is already there.
-fn read_more(source: &mut impl Read, buf: &mut [u8], done: usize) -> io::Result<usize>
-    requires { done ≤ length buf.old }
-    ensures { IfOk result (λ more. more ≤ length buf.old - done) }
-{
-    source.read(&mut buf[done..])
-}
+use std::io::{self, Read, Write};
 
 // Reads until the input ends or the buffer is full: a short read is not the end.
-fn read_input(source: &mut impl Read, buf: &mut [u8]) -> Input
-    ensures { Within (length buf.old) result }
+fn read_input(source: &mut impl Read, buf: &mut [u8]) -> io::Result<usize>
+    ensures { IfOk result (λ n. n ≤ length buf.old) }
 {
     let mut done = 0;
+    // how many reads it takes is the system's
     while done < buf.len() {
-        match read_more(source, buf, done) {
-            Ok(0) => return Input::Read(done),
-            Ok(more) => done += more,
-            Err(e) => return Input::Failed(e),
+        let more = source.read(&mut buf[done..])?;
+        if more == 0 {
+            break;
         }
+        done += more;
     }
-    Input::Read(done)
+    Ok(done)
 }
 
 // What is written of an input, a buffer at a time.
@@ -43,7 +28,8 @@ fn list(sink: &mut impl Write, input: &[u8], out: &mut [u8]) -> io::Result<()>
     requires { 2169 ≤ length out.old }
 {
     let mut place = Place::RecordCount;
-    while !list_place::is_done(place) {
+    // the places follow one another: their number is not known before
+    while !place.is_done() {
         let stop = list_input::more(input, place, out);
         sink.write_all(&out[..stop.end])?;
         place = stop.next;
@@ -73,14 +59,10 @@ fn page() -> [u8; 1048576]
 
 fn main(rt: HostRuntime) -> io::Result<()> {
     let mut buf = [0u8; list_input::ENOUGH];
-    match read_input(&mut rt.stdin(), &mut buf) {
-        Input::Read(n) => {
-            let mut out = page();
-            match list(&mut rt.stdout(), &buf[..n], &mut out) {
-                Ok(()) => Ok(()),
-                Err(e) => fail(&rt, "standard output", e),
-            }
-        }
-        Input::Failed(e) => fail(&rt, "standard input", e),
-    }
+    let n = match read_input(&mut rt.stdin(), &mut buf) {
+        Ok(n) => n,
+        Err(e) => return fail(&rt, "standard input", e),
+    };
+    let mut out = page();
+    list(&mut rt.stdout(), &buf[..n], &mut out).or_else(|e| fail(&rt, "standard output", e))
 }

@@ -5,14 +5,13 @@ use mathlib.Core.Path.{◌≡◌, sym, ap, ◌∙◌}
 use mathlib.Core.Bool.{Bool, true, false, not}
 use mathlib.Core.List.{List}
 use native.Mathlib.Omega.{arith}
+use Rattle.std.specs.Prelude.{Ok, Err}
+use Rattle.answer.specs.Rules.{accepted}
 use Rattle.answer.specs.declared.Refusal.{Refusal}
 use Rattle.answer.specs.declared.Rule.TheVariants.{Key as KeyWrong, Table as TableWrong}
-use Rattle.answer.specs.declared.Verdict.TheVariants.{Accepted, Refused as Stopped}
-use Rattle.answer.specs.declared.Source.{Source}
-use Rattle.answer.specs.declared.Source.TheVariants.{None, Domain}
 use Rattle.answer.specs.declared.Found.{Found}
-use Rattle.answer.specs.declared.Found.TheVariants.{Absent, Gone, Present, Refused}
-use Rattle.answer.specs.Answers.{refusal, found_answer}
+use Rattle.answer.specs.declared.Found.TheVariants.{Absent, Gone, Present}
+use Rattle.answer.specs.Answers.{refusal, found_answer, Source}
 use Rattle.lists.proofs.Tests.{tests, was-true, was-false}
 use Rattle.segment.specs.declared.header.Header.{Header}
 use Rattle.segment.specs.declared.record.Record.{Record}
@@ -23,18 +22,12 @@ use Rattle.segment.specs.Keys.{Key, key_of, allows_key}
 use Rattle.lists.specs.Lists.{eq_list}
 use Rattle.segment.specs.Check.{digest_in, key_no, segment_verdict}
 use Rattle.segment.specs.Meaning.{source_of}
-use Rattle.segment.specs.LookUp.{key_verdict, record_found, found_over, found_no, found_in, found_under, looked_up, look_up_of}
+use Rattle.segment.specs.LookUp.{key_verdict, record_found, found_over, found_no, found_in, found_under, LookedUp, looked_up, look_up_of}
 use Rattle.segment.proofs.Found.{never-absent, found_none, found-more, found_first}
 use Rattle.key.specs.declared.Kind.TheVariants.{Records}
 use Rattle.key.specs.Items.{item_key, item_hash, item_digest, item_span, record_span}
 
 -- ---- one record
-
-pub no_source : (imported domain : ℕ) → imported ≡ 0 → None ≡ source_of imported domain
-no_source imported domain e = simp tests
-
-pub a-source : (imported domain : ℕ) → (imported ≡ 0 → ⊥) → Domain domain ≡ source_of imported domain
-a-source imported domain e = simp tests
 
 module _ (r : Record) (o : Source) (e : o ≡ source_of r.imported r.source) where
   pub found-gone : r.flags ≡ 1 → Gone r.visibility r.domain o ≡ record_found r
@@ -89,25 +82,25 @@ module _ (sh : Shape) (pairs s : List ℕ) (h : Header) (key : Key) (k : ℕ) (e
 -- ---- the whole
 
 module _ (pairs s : List ℕ) (key : Key) where
-  pub unknown-key : (b : Bool) → b ≡ allows_key pairs key → not b ≡ true → Refused (refusal KeyWrong 0) ≡ found_under pairs s key
+  pub unknown-key : (b : Bool) → b ≡ allows_key pairs key → not b ≡ true → Err (refusal KeyWrong 0) ≡ found_under pairs s key
   unfolding found_under key_verdict
   unknown-key b e f = rw (was-false e f)
 
   module _ (b : Bool) (e : b ≡ allows_key pairs key) (f : not b ≡ false) where
-    pub segment-stop : (x : Refusal) → segment_verdict v3 pairs s ≡ Stopped x → Refused x ≡ found_under pairs s key
+    pub segment-stop : (x : Refusal) → segment_verdict v3 pairs s ≡ Err x → Err x ≡ found_under pairs s key
     unfolding found_under key_verdict
     segment-stop x g = rw (was-true e f, g)
 
-    pub segment-pass : {o : Found} → segment_verdict v3 pairs s ≡ Accepted → o ≡ found_in v3 s (header_of s) key
-        → o ≡ found_under pairs s key
+    pub segment-pass : {o : Found} → segment_verdict v3 pairs s ≡ accepted → o ≡ found_in v3 s (header_of s) key
+        → Ok o ≡ found_under pairs s key
     unfolding found_under key_verdict
-    segment-pass g h = rw (was-true e f, g) h
+    segment-pass g h = rw (was-true e f, g) (ap Ok h)
 
-  pub table-bad : good_table pairs ≡ false → found_answer (Refused (refusal TableWrong 0)) ≡ look_up_of pairs s key
+  pub table-bad : good_table pairs ≡ false → found_answer (Err (refusal TableWrong 0)) ≡ look_up_of pairs s key
   unfolding look_up_of looked_up table_verdict
   table-bad e = rw e
 
-  pub table-good : (part : List ℕ) {o : Found} → good_table pairs ≡ true → part ≡ pairs → o ≡ found_under part s key
+  pub table-good : (part : List ℕ) {o : LookedUp} → good_table pairs ≡ true → part ≡ pairs → o ≡ found_under part s key
       → found_answer o ≡ look_up_of pairs s key
   unfolding look_up_of looked_up table_verdict
   table-good part e p f = rw e (ap found_answer (f ∙ ap (λ (q : List ℕ). found_under q s key) p))

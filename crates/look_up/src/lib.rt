@@ -11,22 +11,20 @@ ghost use Rattle.table.specs.Table.{good_table};
 ghost use Rattle.check_book.specs.Readable.{Readable};
 ghost use Rattle.segment.specs.LookUp.{record_found, found_in, found_under, look_up_of};
 
-use answer::{Found, Refusal, Rule, Source, Verdict};
+use answer::{Found, Refusal, Rule};
 use checksum::Engine;
-use key::Kind;
+use key::Items;
 use key::head::Head;
 use segment::header::Header;
 use segment::record;
 use segment::record::Record;
 use segment::shape::Shape;
+use table::Table;
 
-fn source(imported: u8, domain: u32) -> Source
+fn source(imported: u8, domain: u32) -> Option<u32>
     ensures { result ≡ source_of imported domain }
 {
-    if imported == 0 {
-        return Source::None;
-    }
-    Source::Domain(domain)
+    (imported != 0).then_some(domain)
 }
 
 // What is said of a record that was found.
@@ -58,50 +56,45 @@ fn find(sh: Shape, seg: &[u8], hash: u64, digest: &[u8]) -> Found
     ensures { result ≡ found_in sh seg.now (header_of seg.now) (key_from hash digest.now) }
 {
     let h = Header::of(seg);
-    let first = h.records_offset;
-    let count = h.record_count as usize;
+    let items = Items::records(h.records_offset, sh, seg);
     let head = Head { hash_id: hash };
-    let mut k = 0;
-    while k < count {
-        if key_equal::key_is(
-            Kind::Records(first, sh),
-            seg,
-            &key::NO_LIST,
-            k,
-            head,
-            digest,
-        ) {
-            return found(record::nth_record(sh, seg, first, k));
+    for k in 0..h.record_count as usize {
+        if key_equal::key_is(items, k, head, digest) {
+            return found(record::nth_record(sh, seg, h.records_offset, k));
         }
-        k += 1;
     }
     Found::Absent
 }
 
 // Everything but the table.
-fn look_up_under(by: Engine, pairs: &[u64], seg: &[u8], hash: u64, digest: &[u8]) -> Found
+fn look_up_under(
+    by: Engine,
+    pairs: &[u64],
+    seg: &[u8],
+    hash: u64,
+    digest: &[u8],
+) -> Result<Found, Refusal>
     requires { good_table pairs.now ≡ true }
     ensures { result ≡ found_under pairs.now seg.now (key_from hash digest.now) }
 {
     if !table::allows(pairs, hash, digest.len() as u64) {
-        return Found::Refused(Refusal(Rule::Key, 0));
+        return Err(Refusal(Rule::Key, 0));
     }
-    match check_segment::check_segment(by, pairs, seg) {
-        Verdict::Refused(r) => {
-            return Found::Refused(r);
-        }
-        Verdict::Accepted => {}
-    }
-    find(Shape::V3, seg, hash, digest)
+    check_segment::check_segment(by, pairs, seg)?;
+    Ok(find(Shape::V3, seg, hash, digest))
 }
 
-pub fn look_up_by(by: Engine, pairs: &[u64], seg: &[u8], hash: u64, digest: &[u8]) -> Found
+pub fn look_up_by(
+    by: Engine,
+    pairs: &[u64],
+    seg: &[u8],
+    hash: u64,
+    digest: &[u8],
+) -> Result<Found, Refusal>
     ensures { found_answer result ≡ look_up_of pairs.now seg.now (key_from hash digest.now) }
 {
-    if !table::good(pairs) {
-        return Found::Refused(Refusal(Rule::Table, 0));
-    }
-    let numbers = table::copied(pairs);
-    let count = pairs.len();
-    look_up_under(by, &numbers[..count], seg, hash, digest)
+    let Some(table) = Table::new(pairs) else {
+        return Err(Refusal(Rule::Table, 0));
+    };
+    look_up_under(by, table.pairs(), seg, hash, digest)
 }

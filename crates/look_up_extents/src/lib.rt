@@ -33,20 +33,9 @@ pub fn extents_of_by<'a>(
         extents_part (looked_up pairs.now seg.now (key_from hash digest.now)) seg.now }
 {
     match look_up::look_up_by(by, pairs, seg, hash, digest) {
-        Found::Absent => cut(seg, FileOffset(0), 0),
-        Found::Gone {
-            visibility,
-            domain,
-            source,
-        } => cut(seg, FileOffset(0), 0),
-        Found::Present {
-            visibility,
-            domain,
-            source,
-            total,
-            start,
-            count,
-        } => cut(seg, start, Extent::SIZE * (count as usize)),
-        Found::Refused(r) => cut(seg, FileOffset(0), 0),
+        Ok(Found::Present { start, count, .. }) => cut(seg, start, Extent::SIZE * (count as usize)),
+        Ok(Found::Gone { .. }) => cut(seg, FileOffset(0), 0),
+        Ok(Found::Absent) => cut(seg, FileOffset(0), 0),
+        Err(_) => cut(seg, FileOffset(0), 0),
     }
 }

@@ -25,9 +25,9 @@ num_at-add m n s k h =
     rw (take-add, le-append, l, drop-drop)
 
 -- one byte
-pub num_at-one : (s : List ℕ) (k : ℕ) → k < length s → num_at 1 s k ≡ get_or s k 0
+pub num_at_one : (s : List ℕ) (k : ℕ) → k < length s → num_at 1 s k ≡ get_or s k 0
 unfolding num_at le
-num_at-one s k h = rw (drop-cons s k 0) (omega arith)
+num_at_one s k h = rw (drop-cons s k 0) (omega arith)
 
 pub length-bytes_of : (n v : ℕ) → length (bytes_of n v) ≡ n
 unfolding bytes_of

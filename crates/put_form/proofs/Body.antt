@@ -4,8 +4,9 @@ use Prim.Native.Nat.{ℕ, ◌+◌, ◌-◌, ◌≤◌}
 use mathlib.Core.Path.{◌≡◌, refl, sym, ap, ◌∙◌}
 use mathlib.Core.List.{List, [], ◌++◌, append-nil}
 use native.Mathlib.Omega.{arith}
-use lib.ListN.{length, take, drop, drop_of_length-le, length-append}
-use lib.Seq.{take_at}
+use borrow.Rule.Slice.PartMut.{put_mid}
+use lib.ListN.{length, take, drop, drop_of_length-le, length-append, length-drop}
+use lib.Seq.{take_at, length-take-le}
 use Rattle.numbers.specs.Numbers.{put}
 use Rattle.numbers.proofs.NumberLaws.{put-put, length-put}
 use Rattle.crc64.specs.Crc.{crc}
@@ -19,6 +20,7 @@ use Rattle.segment.specs.Meaning.{Row}
 use Rattle.segment.specs.Tidy.{packed, header_fields, footer_fields, records_bytes, digest_section, extent_bytes, form_header, form_body, form_of}
 use Rattle.form_laws.proofs.Structures.{header-long, footer-long}
 use Rattle.form_laws.proofs.Sizes.{body-length, records-long, extent_bytes-long}
+use Rattle.put_sections.proofs.Lends.{lent}
 use Rattle.put_form.specs.Emit.{Plan, sections_under, body_under}
 use Rattle.put_form.proofs.Plans.{planned}
 
@@ -51,22 +53,34 @@ module _ (sh : Shape) (wf : Shaped sh) (h : Header) (bloom : List ℕ) (rows : L
     long₁ = ap length p₁ ∙ length-put o 0 head (omega (arith, header-long h, head-room))
 
     module _ (w₂ : List ℕ) (p₂ : w₂ ≡ put w₁ 112 bloom) where
-      pub long₂ : length w₂ ≡ length o
+      long₂ : length w₂ ≡ length o
       long₂ = ap length p₂ ∙ length-put w₁ 112 bloom (omega (arith, long₁, head-room)) ∙ long₁
 
-      pub same-plan : Plan sh h rows used (length w₂)
-      same-plan = rw long₂ q
+      -- the sections' stretch, from the bloom bytes to the footer
+      pub stretch-room : records_offset h + 24 ≤ length w₂
+      stretch-room = omega (arith, head-room, long₂, e)
 
-      pub body-done : (w₃ : List ℕ) → w₃ ≡ put w₂ (records_offset h) (sections_under sh h rows) → w₃ ≡ put o 0 (body_under sh h bloom rows)
+      stretch-long : length (take (length w₂ - 24 - records_offset h) (drop (records_offset h) w₂)) ≡ length w₂ - 24 - records_offset h
+      stretch-long = length-take-le (length w₂ - 24 - records_offset h) (drop (records_offset h) w₂) (omega (arith, length-drop (records_offset h) w₂))
+
+      pub same-plan : Plan sh h rows used (records_offset h + length (take (length w₂ - 24 - records_offset h) (drop (records_offset h) w₂)) + 24)
+      same-plan =
+          let l : records_offset h + length (take (length w₂ - 24 - records_offset h) (drop (records_offset h) w₂)) + 24 ≡ length o = omega (arith, stretch-long, stretch-room, long₂) in
+          rw l q
+
+      pub body-done : (s : List ℕ) → s ≡ sections_under sh h rows
+          → put_mid (records_offset h) (length w₂ - 24 - records_offset h) w₂ s ≡ put o 0 (body_under sh h bloom rows)
       unfolding body_under
-      body-done w₃ p₃ =
+      body-done s₃ p₃ =
           let s : List ℕ = sections_under sh h rows in
           let a : put (put w₁ 112 bloom) (112 + length bloom) s ≡ put w₁ 112 (bloom ++ s) = put-put w₁ 112 bloom s (omega (arith, long₁, head-room)) in
           let b : put (put o 0 head) (0 + length head) (bloom ++ s) ≡ put o 0 (head ++ (bloom ++ s)) = put-put o 0 head (bloom ++ s) (omega (arith, header-long h, head-room)) in
           let n : 0 + length head ≡ 112 = omega (arith, header-long h) in
           let c : put w₂ (records_offset h) s ≡ put w₁ 112 (bloom ++ s) =
           ap (λ (k : ℕ). put w₂ k s) e ∙ ap (λ (w : List ℕ). put w (112 + length bloom) s) p₂ ∙ a in
-          p₃ ∙ c ∙ ap (λ (w : List ℕ). put w 112 (bloom ++ s)) p₁ ∙ (rw n at b)
+          let p : put_mid (records_offset h) (length w₂ - 24 - records_offset h) w₂ s₃ ≡ put w₂ (records_offset h) s =
+          lent w₂ s₃ s (records_offset h) (length w₂ - 24 - records_offset h) p₃ (omega (arith, sections-length, long₂)) in
+          p ∙ c ∙ ap (λ (w : List ℕ). put w 112 (bloom ++ s)) p₁ ∙ (rw n at b)
 
 -- ---- with the footer
 

@@ -6,31 +6,32 @@ use mathlib.Core.List.{List, [], ◌∷◌, ◌++◌}
 use native.Mathlib.Nat.{mul-le-mul}
 use native.Mathlib.Omega.{arith}
 use lib.ListN.{length, drop, length-map}
+use Rattle.std.specs.Prelude.{Err, Ok}
 use Rattle.answer.specs.declared.Rule.TheVariants.{Room, Large}
 use Rattle.answer.specs.Answers.{refusal}
-use Rattle.answer.specs.declared.Written.TheVariants.{Done, Refused}
 use Rattle.lists.proofs.Tests.{tests}
 use Rattle.segment.specs.declared.header.Header.{Header}
-use Rattle.segment.specs.declared.header.Heading.{Heading}
 use Rattle.segment.specs.declared.shape.Shape.{Shape}
 use Rattle.segment.specs.Shapes.{Shaped}
 use Rattle.segment.specs.Format.{in_file, extents_offset, extent_count}
 use Rattle.segment.proofs.Shapes.{shaped-most}
 use Rattle.segment.specs.Check.{bloom_place}
 use Rattle.segment.specs.Meaning.{Row}
-use Rattle.segment.specs.Tidy.{digest_bytes, lacking, digest_section, extent_total, largest_visibility, form_header, form_of, room_verdict, settled}
+use Rattle.segment.specs.Tidy.{digest_bytes, lacking, digest_section, extent_total, largest_visibility, form_header, room_verdict, settled}
 use Rattle.form_laws.proofs.Sizes.{section-long, form-length}
-use Rattle.key.specs.declared.Kind.{Kind}
 use Rattle.lists.specs.Lists.{Each}
 use Rattle.put_item.specs.declared.Sizes.{Sizes}
-use Rattle.put_item.specs.Lines.{item_row, item_rows, Lines, measured}
+use Rattle.put_item.specs.declared.Source.{Source}
+use Rattle.put_item.specs.Lines.{measured}
+use Rattle.put_item.specs.Sources.{row_in, rows_in, LinesIn, measured_in}
 use Rattle.put_item.proofs.ItemRows.{digests-come, extents-come, visibility-comes}
-use Rattle.put_form.specs.Emit.{Moderate, header_for, Plan, Emitted}
+use Rattle.put_form.specs.declared.Frame.{Frame}
+use Rattle.put_form.specs.Emit.{Moderate, header_for, Plan, form_in, Emitted}
 
-module _ (kind : Kind) (bytes list extents : List ℕ) where
-  small : (numbers : List ℕ) → Lines kind bytes list extents numbers
-      → ((measured kind bytes list numbers).digests ≤ 1024 * length numbers) × ((measured kind bytes list numbers).extents ≤ 4294967296 * length numbers)
-      × ((measured kind bytes list numbers).visibility ≤ 1)
+module _ (source : Source) where
+  small : (numbers : List ℕ) → LinesIn source numbers
+      → ((measured_in source numbers).digests ≤ 1024 * length numbers) × ((measured_in source numbers).extents ≤ 4294967296 * length numbers)
+      × ((measured_in source numbers).visibility ≤ 1)
   unfolding Each measured
   small [] l = (omega arith, omega arith, omega arith)
   small (k ∷ ks) l =
@@ -38,9 +39,15 @@ module _ (kind : Kind) (bytes list extents : List ℕ) where
       let r = small ks l.1 in
       (omega (arith, n.digest, r.0), omega (arith, n.extents, r.1), omega (arith, n.visibility, r.2))
 
-  module _ (sh : Shape) (wf : Shaped sh) (t : Heading) (bloom numbers : List ℕ) (l : Lines kind bytes list extents numbers) (few : length numbers ≤ 65536) (s : Sizes) (m : s ≡ measured kind bytes list numbers) where
+  module _ (frame : Frame) (wf : Shaped frame.shape) (numbers : List ℕ) (l : LinesIn source numbers) (few : length numbers ≤ 65536) (s : Sizes) (m : s ≡ measured_in source numbers) where
+    abbrev sh : Shape
+    sh = frame.shape
+
+    abbrev bloom : List ℕ
+    bloom = frame.bloom.now
+
     abbrev rows : List Row
-    rows = item_rows kind bytes list extents numbers
+    rows = rows_in source numbers
 
     pub moderate : length bloom ≤ 1073741824 → Moderate (length bloom) (length numbers) s
     moderate b =
@@ -54,24 +61,24 @@ module _ (kind : Kind) (bytes list extents : List ℕ) where
         })
 
     many : length numbers ≡ length rows
-    many = sym (length-map numbers (item_row kind bytes list extents))
+    many = sym (length-map numbers (row_in source))
 
     bytes-many : sh.record_size * length numbers ≡ sh.record_size * length rows
     bytes-many = ap (λ (n : ℕ). sh.record_size * n) many
 
     pub digests-are : s.digests ≡ length (digest_bytes rows)
-    digests-are = ap (λ (x : Sizes). x.digests) m ∙ sym (digests-come kind bytes list extents numbers l)
+    digests-are = ap (λ (x : Sizes). x.digests) m ∙ sym (digests-come source numbers l)
 
     size_is : s.digests + lacking s.digests ≡ length (digest_section rows)
     size_is = ap (λ (n : ℕ). n + lacking n) digests-are ∙ sym (section-long rows)
 
     extents-are : s.extents ≡ extent_total rows
-    extents-are = ap (λ (x : Sizes). x.extents) m ∙ sym (extents-come kind bytes list extents numbers l)
+    extents-are = ap (λ (x : Sizes). x.extents) m ∙ sym (extents-come source numbers l)
 
     visibility-is : s.visibility ≡ largest_visibility rows
-    visibility-is = ap (λ (x : Sizes). x.visibility) m ∙ sym (visibility-comes kind bytes list extents numbers)
+    visibility-is = ap (λ (x : Sizes). x.visibility) m ∙ sym (visibility-comes source numbers)
 
-    header-same : header_for sh t (length bloom) (length numbers) s ≡ form_header sh t (length bloom) rows
+    header-same : header_for sh frame.heading (length bloom) (length numbers) s ≡ form_header sh frame.heading (length bloom) rows
     unfolding header_for form_header
     header-same =
         let digests : 112 + length bloom + sh.record_size * length numbers ≡ 112 + length bloom + sh.record_size * length rows = omega (arith, bytes-many) in
@@ -80,10 +87,10 @@ module _ (kind : Kind) (bytes list extents : List ℕ) where
         λ j. record {
           magic = sh.magic;
           version = sh.version;
-          shard = t.shard;
+          shard = frame.heading.shard;
           header_size = 112;
-          snapshot_min = t.snapshot_min;
-          snapshot_max = t.snapshot_max;
+          snapshot_min = frame.heading.snapshot_min;
+          snapshot_max = frame.heading.snapshot_max;
           record_count = many j;
           records_offset = in_file (112 + length bloom);
           bloom_offset = in_file (bloom_place (length bloom));
@@ -92,15 +99,15 @@ module _ (kind : Kind) (bytes list extents : List ℕ) where
           digests_size = size_is j;
           extents_offset = in_file (end j);
           extent_count = extents-are j;
-          domain = t.domain;
+          domain = frame.heading.domain;
           visibility = visibility-is j;
           federation = 0;
           reserved = 0;
           flags = 0;
         }
 
-    module _ (h : Header) (e : h ≡ header_for sh t (length bloom) (length numbers) s) where
-      pub form-header : h ≡ form_header sh t (length bloom) rows
+    module _ (h : Header) (e : h ≡ header_for sh frame.heading (length bloom) (length numbers) s) where
+      pub form-header : h ≡ form_header sh frame.heading (length bloom) rows
       form-header = e ∙ header-same
 
       pub bounded : length bloom ≤ 1073741824 → (extents_offset h ≤ 2147483648) × (extent_count h ≤ 281474976710656)
@@ -112,16 +119,16 @@ module _ (kind : Kind) (bytes list extents : List ℕ) where
           (omega (arith, k.short, mul-le-mul (shaped-most sh wf) k.few, k.digests, x), omega (arith, k.extents, z))
 
       -- the length of the form, as the header says it
-      pub form-long : length (form_of sh t bloom rows) ≡ extents_offset h + 16 * extent_count h + 24
+      pub form-long : length (form_in frame rows) ≡ extents_offset h + 16 * extent_count h + 24
       unfolding form_header
       form-long =
           let a : extents_offset h ≡ 112 + length bloom + sh.record_size * length rows + length (digest_section rows) = ap (λ (x : Header). extents_offset x) form-header in
           let b : extent_count h ≡ extent_total rows = ap (λ (x : Header). extent_count x) form-header in
-          form-length sh wf t bloom rows ∙ omega (arith, a, b)
+          form-length sh wf frame.heading bloom rows ∙ omega (arith, a, b)
 
       pub plan : (n : ℕ) → n ≡ extents_offset h + 16 * extent_count h + 24 → n ≤ 1073741824 → Plan sh h rows s.digests n
       plan n f k = record {
-        heading = t;
+        heading = frame.heading;
         bloom = bloom;
         header = form-header;
         file = f ∙ sym form-long;
@@ -133,17 +140,17 @@ module _ (kind : Kind) (bytes list extents : List ℕ) where
 -- ---- the answers
 
 module _ (form out : List ℕ) where
-  pub too_large : 1073741824 < length form → Emitted form out out (Refused (refusal Large 0))
+  pub too_large : 1073741824 < length form → Emitted form out out (Err (refusal Large 0))
   unfolding settled room_verdict
   too_large h = record { answer = simp tests; output = refl }
 
-  pub no_room : length form ≤ 1073741824 → length out < length form → Emitted form out out (Refused (refusal Room 0))
+  pub no_room : length form ≤ 1073741824 → length out < length form → Emitted form out out (Err (refusal Room 0))
   unfolding settled room_verdict
   no_room h l = record { answer = simp tests; output = refl }
 
-  pub written : (n : ℕ) (p : List ℕ) → n ≡ length form → length form ≤ 1073741824 → length form ≤ length out → p ≡ form → Emitted form out (p ++ drop n out) (Done n)
+  pub written : (n : ℕ) (p : List ℕ) → n ≡ length form → length form ≤ 1073741824 → length form ≤ length out → p ≡ form → Emitted form out (p ++ drop n out) (Ok n)
   unfolding settled room_verdict
   written n p e h l q = record { answer = simp (tests, e); output = rw q }
 
-pub bloom-large : (sh : Shape) → Shaped sh → (t : Heading) (bloom : List ℕ) (rows : List Row) → 1073741824 < length bloom → 1073741824 < length (form_of sh t bloom rows)
-bloom-large sh wf t bloom rows h = omega (arith, form-length sh wf t bloom rows)
+pub bloom-large : (frame : Frame) → Shaped frame.shape → (rows : List Row) → 1073741824 < length frame.bloom.now → 1073741824 < length (form_in frame rows)
+bloom-large frame wf rows h = omega (arith, form-length frame.shape wf frame.heading frame.bloom.now rows)

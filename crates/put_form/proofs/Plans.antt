@@ -16,6 +16,7 @@ use Rattle.put_form.specs.Emit.{Plan}
 
 pub record Planned (sh : Shape) (h : Header) (rows : List Row) (n : ℕ) : Type 0 where
   pub digests : digests_offset h ≡ records_offset h + sh.record_size * length rows
+  pub size : h.digests_size ≡ length (digest_section rows)
   pub extents : extents_offset h ≡ digests_offset h + length (digest_section rows)
   pub count : extent_count h ≡ extent_total rows
   pub file : n ≡ extents_offset h + 16 * extent_count h + 24
@@ -29,4 +30,5 @@ planned {sh} {h} {rows} w q =
     let d : digests_offset h ≡ 112 + length q.bloom + sh.record_size * length rows = ap (λ (y : Header). digests_offset y) e in
     let s : extents_offset h ≡ 112 + length q.bloom + sh.record_size * length rows + length (digest_section rows) = ap (λ (y : Header). extents_offset y) e in
     let c : extent_count h ≡ extent_total rows = ap (λ (y : Header). extent_count y) e in
-    record { digests = omega arith; extents = omega arith; count = c; file = q.file ∙ omega arith }
+    let z : h.digests_size ≡ length (digest_section rows) = ap (λ (y : Header). y.digests_size) e in
+    record { digests = omega arith; size = z; extents = omega arith; count = c; file = q.file ∙ omega arith }

@@ -3,12 +3,12 @@
 --   header_for         the header of a segment with so many bloom bytes and records, whose digests and extents have these sizes
 --   Plan              a header of rows' form, which has so many bytes of digests, and is a file of so many bytes
 --   sections_under, body_under   the three sections of rows, and everything before the footer, under such a header
+--   form_in           the form of rows in a frame
 --   EmittedAfter, Emitted   what write and tidy answer and leave of a form and an output
 -- Assumes nothing: these are definitions.
 use Rattle.std.specs.Prelude.{ℕ, ◌+◌, ◌≤◌, ◌≡◌, List, ◌++◌, length}
-use Rattle.answer.specs.declared.Verdict.{Verdict}
-use Rattle.answer.specs.declared.Verdict.TheVariants.{Accepted}
-use Rattle.answer.specs.declared.Written.{Written}
+use Rattle.answer.specs.Answers.{Written}
+use Rattle.answer.specs.Rules.{Verdict, accepted}
 use Rattle.segment.specs.declared.header.Header.{Header}
 use Rattle.segment.specs.declared.header.Heading.{Heading}
 use Rattle.segment.specs.declared.shape.Shape.{Shape}
@@ -29,6 +29,7 @@ use Rattle.segment.specs.Tidy.{
   output_after,
 }
 use Rattle.put_item.specs.declared.Sizes.{Sizes}
+use Rattle.put_form.specs.declared.Frame.{Frame}
 
 -- for each of 65,536 records at most 1,024 bytes of digest and 2^32 extents
 pub record Moderate (bloom count : ℕ) (s : Sizes) : Type 0 where
@@ -57,6 +58,9 @@ sections_under sh h rows =
 unfoldable pub body_under : Shape → Header → List ℕ → List Row → List ℕ
 body_under sh h bloom rows = packed (header_fields h) ++ (bloom ++ sections_under sh h rows)
 
+abbrev pub form_in : Frame → List Row → List ℕ
+form_in frame rows = form_of frame.shape frame.heading frame.bloom.now rows
+
 -- what is left where a verdict comes before the size: the first refusal and the output as it was, or the form and the bytes that stood after it
 pub record EmittedAfter (v : Verdict) (form out after : List ℕ) (w : Written) : Type 0 where
   pub answer : w ≡ settled v form (length out)
@@ -64,4 +68,4 @@ pub record EmittedAfter (v : Verdict) (form out after : List ℕ) (w : Written) 
 
 -- and where nothing before the size is refused
 abbrev pub Emitted : List ℕ → List ℕ → List ℕ → Written → Type 0
-Emitted form out after w = EmittedAfter Accepted form out after w
+Emitted form out after w = EmittedAfter accepted form out after w

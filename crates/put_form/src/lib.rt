@@ -4,29 +4,41 @@
 
 ghost use Rattle.std.specs.Prelude.{◌≡◌, ◌+◌, ◌≤◌, length};
 ghost use Rattle.numbers.specs.Numbers.{put};
-ghost use Rattle.segment.specs.Format.{header_size, records_offset, record_limit};
+ghost use Rattle.segment.specs.Format.{header_size, footer_size, records_offset, record_limit};
 ghost use Rattle.segment.specs.Shapes.{Shaped};
-ghost use Rattle.segment.specs.Tidy.{form_header, form_of};
-ghost use Rattle.put_item.specs.Lines.{item_rows, Lines};
-ghost use Rattle.put_form.specs.Emit.{Moderate, header_for, Plan, sections_under, body_under, Emitted};
+ghost use Rattle.segment.specs.Tidy.{form_header};
+ghost use Rattle.put_item.specs.Sources.{rows_in, LinesIn};
+ghost use Rattle.put_form.specs.Emit.{Moderate, header_for, Plan, sections_under, body_under, form_in, Emitted};
 
-use answer::{Refusal, Rule, Written};
+use answer::{Refusal, Rule};
 use checksum::Engine;
-use key::Kind;
 use offset::FileOffset;
-use put_item::Sizes;
+use put_item::{Sizes, Source};
 use segment::extent::Extent;
 use segment::footer::Footer;
 use segment::header;
 use segment::header::{Header, Heading};
 use segment::shape::Shape;
 
-// The header of a segment with so many bloom bytes and records, whose digests and extents have these sizes.
-fn header_for(sh: Shape, t: Heading, bloom: u64, count: u64, s: Sizes) -> Header
-    requires shaped { Shaped sh }
-    requires moderate { Moderate bloom count s }
-    ensures { result ≡ header_for sh t bloom count s }
+// What a segment is written with beside its items: the engine that sums it, its shape, the numbers of its heading and its bloom bytes.
+// Each contract asks that the shape is one of a segment, and not this type: the writers of the sections take a shape by itself.
+#[derive(Clone, Copy)]
+pub struct Frame<'a> {
+    pub by: Engine,
+    pub shape: Shape,
+    pub heading: Heading,
+    pub bloom: &'a [u8],
+}
+
+// The header of a segment with so many records, whose digests and extents have these sizes.
+fn header_for(frame: Frame, count: u64, s: Sizes) -> Header
+    requires shaped { Shaped frame.shape }
+    requires moderate { Moderate (length frame.bloom.now) count s }
+    ensures { result ≡ header_for frame.entry.shape frame.entry.heading (length frame.entry.bloom.now) count s }
 {
+    let sh = frame.shape;
+    let t = frame.heading;
+    let bloom = frame.bloom.len() as u64;
     let records = Header::LONG + bloom;
     let digests = records + sh.record_size as u64 * count;
     let size = segment::padded(s.digests);
@@ -54,139 +66,85 @@ fn header_for(sh: Shape, t: Heading, bloom: u64, count: u64, s: Sizes) -> Header
     }
 }
 
-// Records, digests and extents, each lent its own stretch of the output: from r, from d and from x on.
-fn put_sections(
-    sh: Shape,
-    h: Header,
-    used: usize,
-    kind: Kind,
-    bytes: &[u8],
-    list: &[u64],
-    extents: &[u64],
-    numbers: &[u16],
-    out: &mut [u8],
-)
-    requires lines { Lines kind bytes.now list.now extents.now numbers.now }
+// Records, digests and extents, each lent its own stretch of the output.
+fn put_sections(sh: Shape, h: Header, used: usize, source: Source, numbers: &[u16], out: &mut [u8])
+    requires lines { LinesIn source numbers.now }
     requires shaped { Shaped sh }
-    requires plan { Plan sh h (item_rows kind bytes.now list.now extents.now numbers.now) used (length out.old) }
-    ensures { out.new ≡ put out.old (records_offset h)
-        (sections_under sh h (item_rows kind bytes.now list.now extents.now numbers.now)) }
+    requires plan { Plan sh h (rows_in source numbers.now) used (records_offset h + length out.old + footer_size) }
+    ensures { out.new ≡ sections_under sh h (rows_in source.entry numbers.now) }
 {
-    let r = h.records_offset.0 as usize;
-    let d = h.digests_offset.0 as usize;
-    let x = h.extents_offset.0 as usize;
-    let end = out.len() - Footer::SIZE;
-    put_sections::put_records(sh, h, kind, bytes, list, extents, numbers, &mut out[r..d]);
-    put_sections::put_digest_section(kind, bytes, list, numbers, used, &mut out[d..x]);
-    put_sections::put_extents(kind, bytes, list, extents, numbers, &mut out[x..end]);
+    let records_size = h.digests_offset.0 - h.records_offset.0;
+    let (records, rest) = out.split_at_mut(records_size as usize);
+    let (digests, extents) = rest.split_at_mut(h.digests_size as usize);
+    put_sections::put_records(sh, h, source, numbers, records);
+    put_sections::put_digest_section(source.items, numbers, used, digests);
+    put_sections::put_extents(source, numbers, extents);
 }
 
 // Everything before the footer.
-fn put_body(
-    sh: Shape,
-    h: Header,
-    bloom: &[u8],
-    used: usize,
-    kind: Kind,
-    bytes: &[u8],
-    list: &[u64],
-    extents: &[u64],
-    numbers: &[u16],
-    out: &mut [u8],
-)
-    requires lines { Lines kind bytes.now list.now extents.now numbers.now }
-    requires shaped { Shaped sh }
-    requires plan { Plan sh h (item_rows kind bytes.now list.now extents.now numbers.now) used (length out.old) }
-    requires h_value { records_offset h ≡ header_size + length bloom.now }
+fn put_body(frame: Frame, h: Header, used: usize, source: Source, numbers: &[u16], out: &mut [u8])
+    requires lines { LinesIn source numbers.now }
+    requires shaped { Shaped frame.shape }
+    requires plan { Plan frame.shape h (rows_in source numbers.now) used (length out.old) }
+    requires h_value { records_offset h ≡ header_size + length frame.bloom.now }
     ensures { out.new ≡ put out.old 0
-        (body_under sh h bloom.now (item_rows kind bytes.now list.now extents.now numbers.now)) }
+        (body_under frame.entry.shape h frame.entry.bloom.now (rows_in source.entry numbers.now)) }
 {
     put_fields::put_header(h, out);
-    put_sections::copy_bytes(bloom, Header::SIZE, out);
-    put_sections(sh, h, used, kind, bytes, list, extents, numbers, out);
+    put_sections::copy_bytes(frame.bloom, Header::SIZE, out);
+    let from = h.records_offset.0 as usize;
+    let end = out.len() - Footer::SIZE;
+    put_sections(frame.shape, h, used, source, numbers, &mut out[from..end]);
 }
 
 // The whole form, into an output that is as long as it.
-fn put_form(
-    by: Engine,
-    sh: Shape,
-    t: Heading,
-    h: Header,
-    bloom: &[u8],
-    used: usize,
-    kind: Kind,
-    bytes: &[u8],
-    list: &[u64],
-    extents: &[u64],
-    numbers: &[u16],
-    out: &mut [u8],
-)
-    requires lines { Lines kind bytes.now list.now extents.now numbers.now }
-    requires shaped { Shaped sh }
-    requires plan { Plan sh h (item_rows kind bytes.now list.now extents.now numbers.now) used (length out.old) }
-    requires h_value { h ≡ form_header sh t (length bloom.now) (item_rows kind bytes.now list.now extents.now numbers.now) }
-    ensures { out.new ≡ form_of sh t bloom.now
-        (item_rows kind bytes.now list.now extents.now numbers.now) }
+fn put_form(frame: Frame, h: Header, used: usize, source: Source, numbers: &[u16], out: &mut [u8])
+    requires lines { LinesIn source numbers.now }
+    requires shaped { Shaped frame.shape }
+    requires plan { Plan frame.shape h (rows_in source numbers.now) used (length out.old) }
+    requires h_value { h ≡ form_header frame.shape frame.heading (length frame.bloom.now) (rows_in source numbers.now) }
+    ensures { out.new ≡ form_in frame.entry (rows_in source.entry numbers.now) }
 {
-    put_body(sh, h, bloom, used, kind, bytes, list, extents, numbers, out);
+    put_body(frame, h, used, source, numbers, out);
     let body = out.len() - Footer::SIZE;
-    let checksum = checksum::checksum_by(by, &out[..body]);
+    let checksum = checksum::checksum_by(frame.by, &out[..body]);
     let f = Footer {
         checksum,
-        seal_snapshot: t.seal_snapshot,
-        seal_time: t.seal_time,
+        seal_snapshot: frame.heading.seal_snapshot,
+        seal_time: frame.heading.seal_time,
     };
     put_fields::put_footer(f, FileOffset(body as u64), out);
 }
 
 // The form of the items in the order of their numbers, if it keeps to the limit and fits; else the output is left alone.
 // Bloom bytes that pass the limit by themselves are refused first, so that no sum below overflows.
-pub fn emit(
-    by: Engine,
-    sh: Shape,
-    t: Heading,
-    bloom: &[u8],
-    kind: Kind,
-    bytes: &[u8],
-    list: &[u64],
-    extents: &[u64],
-    numbers: &[u16],
-    out: &mut [u8],
-) -> Written
-    requires lines { Lines kind bytes.now list.now extents.now numbers.now }
-    requires shaped { Shaped sh }
+pub fn emit(frame: Frame, source: Source, numbers: &[u16], out: &mut [u8]) -> Result<u64, Refusal>
+    requires lines { LinesIn source numbers.now }
+    requires shaped { Shaped frame.shape }
     requires numbers_len_bound { length numbers.now ≤ record_limit }
-    ensures { Emitted
-        (form_of sh t bloom.now (item_rows kind bytes.now list.now extents.now numbers.now))
-        out.old out.new result }
+    ensures { Emitted (form_in frame.entry (rows_in source.entry numbers.now)) out.old out.new result }
 {
-    let size = bloom.len() as u64;
+    let size = frame.bloom.len() as u64;
     if segment::LIMIT < size {
-        return Written::Refused(Refusal(Rule::Large, 0));
+        return Err(Refusal(Rule::Large, 0));
     }
-    let s = put_item::measure(kind, bytes, list, numbers);
-    let h = header_for(sh, t, size, numbers.len() as u64, s);
+    let s = source.measure(numbers);
+    let h = header_for(frame, numbers.len() as u64, s);
     let n = h.extents_offset.0 + Extent::LONG * h.extent_count + Footer::LONG;
     if segment::LIMIT < n {
-        return Written::Refused(Refusal(Rule::Large, 0));
+        return Err(Refusal(Rule::Large, 0));
     }
     if (out.len() as u64) < n {
-        return Written::Refused(Refusal(Rule::Room, 0));
+        return Err(Refusal(Rule::Room, 0));
     }
     let end = n as usize;
     put_form(
-        by,
-        sh,
-        t,
+        frame,
         h,
-        bloom,
         s.digests as usize,
-        kind,
-        bytes,
-        list,
-        extents,
+        source,
         numbers,
         &mut out[..end],
     );
-    Written::Done(n)
+    Ok(n)
 }

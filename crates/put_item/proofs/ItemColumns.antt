@@ -1,8 +1,9 @@
 -- What each kind of source says of an item: where it stands, its nine numbers, its extents and its total.
 -- Assumes nothing.
-use Prim.Native.Nat.{ℕ, ◌+◌, ◌-◌, ◌*◌, ◌%◌, ◌^◌, ◌≤◌, ◌<◌}
+use Prim.Native.Nat.{ℕ, suc, ◌+◌, ◌-◌, ◌*◌, ◌%◌, ◌^◌, ◌≤◌, ◌<◌}
 use mathlib.Core.Path.{◌≡◌, sym, subst, ◌∙◌}
 use mathlib.Core.List.{List}
+use native.Mathlib.Numerals.{add-one}
 use native.Mathlib.Omega.{arith}
 use lib.ListN.{length, get_or}
 use Rattle.numbers.proofs.NumberLaws.{bytes_of_mod}
@@ -15,7 +16,6 @@ use Rattle.segment.specs.Format.{in_block, record_from, total_in, record_of, ext
 use Rattle.segment.specs.Check.{sum_lengths}
 use Rattle.segment.specs.Tidy.{packed, extent_fields}
 use Rattle.segment.specs.Write.{entry_no, listed_extent, extents_from}
-use Rattle.segment.proofs.ListedExtents.{next-listed}
 use Rattle.key.specs.declared.Kind.{Kind}
 use Rattle.key.specs.declared.Kind.TheVariants.{Records, Entries}
 use Rattle.put_item.specs.Lines.{record_entry, item_entry, item_extent, Held, item_total, Line}
@@ -62,32 +62,33 @@ module _ (kind : Kind) (bytes extents : List ℕ) (first : ℕ) where
 
 -- ---- a total
 
--- j of the extents are added up
+-- the extents before the j-th are added up
 pub record Adding (xs : List ℕ) (first count j sum : ℕ) : Type 0 where
-  pub within : j ≤ count
-  pub same : sum_lengths (extents_from xs first count) ≡ sum + sum_lengths (extents_from xs (first + j) (count - j))
+  pub within : j ≤ first + count
+  pub same : sum_lengths (extents_from xs first count) ≡ sum + sum_lengths (extents_from xs j (first + count - j))
 
-pub adding-start : (xs : List ℕ) (first count : ℕ) → Adding xs first count 0 0
+pub adding-start : (xs : List ℕ) (first count : ℕ) → Adding xs first count first 0
 adding-start xs first count =
-    let e : first + 0 ≡ first = omega arith in
-    let f : count - 0 ≡ count = omega arith in
-    record { within = omega arith; same = rw (e, f) (omega arith) }
+    let f : first + count - first ≡ count = omega arith in
+    record { within = omega arith; same = rw f (omega arith) }
 
 module _ (xs : List ℕ) (first count j sum : ℕ) (a : Adding xs first count j sum) where
-  one_left : j < count → sum_lengths (extents_from xs (first + j) (count - j)) ≡ get_or xs (3 * (first + j) + 2) 0 + sum_lengths (extents_from xs (first + (j + 1)) (count - (j + 1)))
-  unfolding sum_lengths listed_extent
-  one_left h = rw (next-listed xs first count j h)
+  one_left : j < first + count → sum_lengths (extents_from xs j (first + count - j)) ≡ get_or xs (3 * j + 2) 0 + sum_lengths (extents_from xs (j + 1) (first + count - (j + 1)))
+  unfolding sum_lengths extents_from listed_extent
+  one_left h =
+      let e : first + count - j ≡ suc (first + count - (j + 1)) = omega arith in
+      rw (e, add-one)
 
-  pub adding-fits : j < count → sum_lengths (extents_from xs first count) < 18446744073709551616 → sum + get_or xs (3 * (first + j) + 2) 0 < 18446744073709551616
+  pub adding-fits : j < first + count → sum_lengths (extents_from xs first count) < 18446744073709551616 → sum + get_or xs (3 * j + 2) 0 < 18446744073709551616
   adding-fits h l = omega (arith, a.same, one_left h)
 
-  pub adding-more : j < count → Adding xs first count (j + 1) (sum + get_or xs (3 * (first + j) + 2) 0)
+  pub adding-more : j < first + count → Adding xs first count (j + 1) (sum + get_or xs (3 * j + 2) 0)
   adding-more h = record { within = omega arith; same = omega (arith, a.same, one_left h) }
 
-  pub adding-done : count ≤ j → sum ≡ sum_lengths (extents_from xs first count)
+  pub adding-done : first + count ≤ j → sum ≡ sum_lengths (extents_from xs first count)
   unfolding sum_lengths extents_from
   adding-done h =
-      let e : count - j ≡ 0 = omega arith in
+      let e : first + count - j ≡ 0 = omega arith in
       sym (a.same ∙ rw e (omega arith))
 
 module _ (kind : Kind) (bytes list extents : List ℕ) (k : ℕ) where

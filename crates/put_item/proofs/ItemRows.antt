@@ -15,7 +15,7 @@ use Rattle.segment.specs.declared.entry.Entry.{Entry}
 use Rattle.segment.specs.Format.{extents_at}
 use Rattle.lists.specs.Lists.{insert, sort_by, Each}
 use Rattle.segment.specs.Check.{sum_lengths}
-use Rattle.segment.specs.Meaning.{gone, Row, row_key, row_extents, source_of}
+use Rattle.segment.specs.Meaning.{Row, row_key, row_extents, source_of}
 use Rattle.segment.specs.Tidy.{imported_of, domain_of, flags_of, extents_place, record_for, digest_bytes, extent_total, largest_visibility, row_leq}
 use Rattle.segment.specs.Write.{entry_no, extents_from}
 use Rattle.segment.proofs.ListedExtents.{listed-counted}
@@ -25,7 +25,10 @@ use Rattle.key.specs.declared.Kind.{Kind}
 use Rattle.key.specs.declared.Kind.TheVariants.{Records, Entries}
 use Rattle.key.specs.Items.{record_span, entry_span, item_hash, item_span, item_digest, item_key, Item}
 use Rattle.key.specs.ItemOrder.{item_leq}
-use Rattle.put_item.specs.Lines.{record_entry, item_entry, item_extents, item_total, extents_of_entry, row_of_entry, item_row, item_rows, Counted, Line, Lines, record_of_entry, measured}
+use Rattle.key.specs.Lent.{Readable}
+use Rattle.put_item.specs.declared.Source.{Source}
+use Rattle.put_item.specs.Sources.{entry_in, row_in, rows_in, CountedIn, LineIn, LinesIn, measured_in}
+use Rattle.put_item.specs.Lines.{record_entry, item_entry, item_extents, item_total, extents_of_entry, row_of_entry, item_row, item_rows, Line, record_of_entry, measured}
 
 -- ---- an item's key is its row's
 
@@ -162,28 +165,28 @@ unfolding Each
 each-then P Q f [] e = tt
 each-then P Q f (k ∷ ks) e = (f k e.0, each-then P Q f ks e.1)
 
-module _ (kind : Kind) (bytes list extents : List ℕ) where
-  pub counted-lines : (numbers : List ℕ) → Lines kind bytes list extents numbers → Each (Counted kind bytes list) numbers
-  counted-lines numbers l = each-then (Line kind bytes list extents) (Counted kind bytes list) (λ k h. h.counted) numbers l
+module _ (source : Source) where
+  pub counted-lines : (numbers : List ℕ) → LinesIn source numbers → Each (CountedIn source) numbers
+  counted-lines numbers l = each-then (LineIn source) (CountedIn source) (λ k h. h.counted) numbers l
 
-  pub read-lines : (numbers : List ℕ) → Lines kind bytes list extents numbers → Each (Item kind bytes list) numbers
-  read-lines numbers l = each-then (Line kind bytes list extents) (Item kind bytes list) (λ k h. h.counted.item) numbers l
+  pub read-lines : (numbers : List ℕ) → LinesIn source numbers → Each (Readable source.items) numbers
+  read-lines numbers l = each-then (LineIn source) (Readable source.items) (λ k h. h.counted.item) numbers l
 
-  pub digests-come : (numbers : List ℕ) → Lines kind bytes list extents numbers
-      → length (digest_bytes (item_rows kind bytes list extents numbers)) ≡ (measured kind bytes list numbers).digests
+  pub digests-come : (numbers : List ℕ) → LinesIn source numbers
+      → length (digest_bytes (rows_in source numbers)) ≡ (measured_in source numbers).digests
   unfolding Each digest_bytes measured
   digests-come [] l = refl
   digests-come (k ∷ ks) l =
-      length-append (item_row kind bytes list extents k).key.digest (digest_bytes (item_rows kind bytes list extents ks))
-      ∙ omega (arith, row-digest-length kind bytes list extents k l.0.counted.item, digests-come ks l.1)
+      length-append (row_in source k).key.digest (digest_bytes (rows_in source ks))
+      ∙ omega (arith, row-digest-length source.items.kind source.items.bytes.now source.items.list.now source.extents.now k l.0.counted.item, digests-come ks l.1)
 
-  pub extents-come : (numbers : List ℕ) → Lines kind bytes list extents numbers
-      → extent_total (item_rows kind bytes list extents numbers) ≡ (measured kind bytes list numbers).extents
+  pub extents-come : (numbers : List ℕ) → LinesIn source numbers
+      → extent_total (rows_in source numbers) ≡ (measured_in source numbers).extents
   unfolding Each extent_total measured
   extents-come [] l = refl
-  extents-come (k ∷ ks) l = omega (arith, row_count kind bytes list extents k l.0, extents-come ks l.1)
+  extents-come (k ∷ ks) l = omega (arith, row_count source.items.kind source.items.bytes.now source.items.list.now source.extents.now k l.0, extents-come ks l.1)
 
-  pub visibility-comes : (numbers : List ℕ) → largest_visibility (item_rows kind bytes list extents numbers) ≡ (measured kind bytes list numbers).visibility
+  pub visibility-comes : (numbers : List ℕ) → largest_visibility (rows_in source numbers) ≡ (measured_in source numbers).visibility
   unfolding largest_visibility measured item_row row_of_entry
   visibility-comes [] = refl
-  visibility-comes (k ∷ ks) = ap (max (item_entry kind bytes list k).visibility) (visibility-comes ks)
+  visibility-comes (k ∷ ks) = ap (max (entry_in source k).visibility) (visibility-comes ks)

@@ -2,55 +2,38 @@
 // for each column knows the kinds; those who write do not.
 #![tactic(auto)]
 
-ghost use Rattle.std.specs.Prelude.{◌≡◌, ◌+◌, ◌*◌, ◌≤◌, ◌<◌, max, cond, eqb, length};
+ghost use Rattle.std.specs.Prelude.{◌≡◌, ◌+◌, ◌*◌, ◌≤◌, ◌<◌, cond, eqb, length};
 ghost use Rattle.segment.specs.Format.{record_limit, listed_size};
 ghost use Rattle.segment.specs.Check.{sum_lengths};
 ghost use Rattle.segment.specs.Tidy.{packed, extent_fields};
 ghost use Rattle.segment.specs.Write.{listed_extent, extents_from};
-ghost use Rattle.key.specs.Items.{Item};
+ghost use Rattle.key.specs.Lent.{Readable};
 ghost use Rattle.lists.specs.Lists.{Each};
-ghost use Rattle.put_item.specs.Lines.{record_entry, item_entry, item_extent, Held, item_total, Narrow, Counted, Line, record_of_entry, measured};
+ghost use Rattle.put_item.specs.Lines.{record_entry, Narrow, record_of_entry};
+ghost use Rattle.put_item.specs.Sources.{entry_in, extent_in, total_in, HeldIn, CountedIn, LineIn, measured_in};
 
 use field_record::record as fields;
-use key::Kind;
+use key::{Items, Kind};
 use offset::{BlockOffset, FileOffset};
 use segment::entry::Entry;
 use segment::extent::Extent;
 use segment::record;
 use segment::record::Record;
 
-// A field's number as a wider one, so that who reads many fields need not show of each that it fits.
-fn wide(x: u32) -> u64
-    ensures { result ≡ x }
-{
-    x as u64
-}
-
 // A record's nine numbers.
 fn entry_of_record(r: Record) -> Entry
     ensures { result ≡ record_entry r }
 {
     Entry {
-        hash_id: wide(r.hash_id),
+        hash_id: u64::from(r.hash_id),
         digest_start: r.digest_offset.0,
-        digest_length: r.digest_length as u64,
-        visibility: r.visibility as u64,
-        imported: r.imported as u64,
-        source: wide(r.source),
-        gone: wide(r.flags),
+        digest_length: u64::from(r.digest_length),
+        visibility: u64::from(r.visibility),
+        imported: u64::from(r.imported),
+        source: u64::from(r.source),
+        gone: u64::from(r.flags),
         first_extent: r.extents_offset.0,
-        extent_count: wide(r.extent_count),
-    }
-}
-
-// An item's nine numbers.
-pub fn entry_of(kind: Kind, bytes: &[u8], list: &[u64], k: usize) -> Entry
-    requires { Item kind bytes.now list.now k }
-    ensures { result ≡ item_entry kind bytes.now list.now k }
-{
-    match kind {
-        Kind::Records(first, sh) => entry_of_record(record::nth_record(sh, bytes, first, k)),
-        Kind::Entries => Entry::at(list, k),
+        extent_count: u64::from(r.extent_count),
     }
 }
 
@@ -70,46 +53,17 @@ fn listed_extent(extents: &[u64], j: usize) -> Extent
     }
 }
 
-// The j-th extent from the first on.
-pub fn extent_of(kind: Kind, bytes: &[u8], extents: &[u64], first: usize, j: usize) -> Extent
-    requires { Held kind bytes.now extents.now first (j + 1) }
-    ensures { packed (extent_fields result) ≡ packed (extent_fields (item_extent kind bytes.now extents.now first j)) }
-{
-    match kind {
-        Kind::Records(_, _) => Extent::at(bytes, FileOffset((first + Extent::SIZE * j) as u64)),
-        Kind::Entries => listed_extent(extents, first + j),
-    }
-}
-
 // The lengths of some extents of the list, added up.
 fn sum_listed(extents: &[u64], first: usize, count: usize) -> u64
     requires count_in_bounds { listed_size * (first + count) ≤ length extents.now }
     requires count_bound { sum_lengths (extents_from extents.now first count) < 18446744073709551616 }
     ensures { result ≡ sum_lengths (extents_from extents.now first count) }
 {
-    let mut sum: u64 = 0;
-    let mut j = 0;
-    while j < count {
-        sum += extents[Extent::LISTED * (first + j) + 2];
-        j += 1;
+    let mut sum = 0;
+    for j in first..first + count {
+        sum += extents[Extent::LISTED * j + 2];
     }
     sum
-}
-
-// An item's total length.
-pub fn total_of(kind: Kind, bytes: &[u8], list: &[u64], extents: &[u64], k: usize) -> u64
-    requires { Line kind bytes.now list.now extents.now k }
-    ensures { result ≡ item_total kind bytes.now list.now extents.now k }
-{
-    match kind {
-        Kind::Records(first, sh) => {
-            fields::total_length(bytes, record::begins(sh, first, k), sh.total_wide)
-        }
-        Kind::Entries => {
-            let e = Entry::at(list, k);
-            sum_listed(extents, e.first_extent as usize, e.extent_count as usize)
-        }
-    }
 }
 
 // Where a record says that its extents lie: nowhere, if it is gone.
@@ -122,7 +76,8 @@ fn extents_place(e: Entry, at: FileOffset) -> FileOffset
     at
 }
 
-// The record of an entry, with its total, its domain and its two places.
+// The record of an entry, with its total, its domain and its two places. Each number is known to fit its field, so it is narrowed by
+// `as`: `try_from` would make an error that no caller can meet.
 pub fn record_for(
     e: Entry,
     total: u64,
@@ -159,31 +114,83 @@ pub struct Sizes {
     pub visibility: u64,
 }
 
-fn larger(a: u64, b: u64) -> u64
-    ensures { result ≡ max a b }
-{
-    if a < b { b } else { a }
+// Items that are written, with the flat list of their extents: for records it is not read, since these have theirs in the segment.
+#[derive(Clone, Copy)]
+pub struct Source<'a> {
+    pub items: Items<'a>,
+    pub extents: &'a [u64],
 }
 
-pub fn measure(kind: Kind, bytes: &[u8], list: &[u64], numbers: &[u16]) -> Sizes
-    requires each { Each (Counted kind bytes.now list.now) numbers.now }
-    requires numbers_len_bound { length numbers.now ≤ record_limit }
-    ensures { result ≡ measured kind bytes.now list.now numbers.now }
-{
-    let mut digests: u64 = 0;
-    let mut extents: u64 = 0;
-    let mut visibility: u64 = 0;
-    let mut k = 0;
-    while k < numbers.len() {
-        let e = entry_of(kind, bytes, list, numbers[k] as usize);
-        digests += e.digest_length;
-        extents += e.extent_count;
-        visibility = larger(visibility, e.visibility);
-        k += 1;
+impl<'a> Source<'a> {
+    // An item's nine numbers.
+    pub fn entry(self, k: usize) -> Entry
+        requires { Readable self.items k }
+        ensures { result ≡ entry_in self.entry k }
+    {
+        match self.items.kind {
+            Kind::Records(first, sh) => {
+                entry_of_record(record::nth_record(sh, self.items.bytes, first, k))
+            }
+            Kind::Entries => Entry::at(self.items.list, k),
+        }
     }
-    Sizes {
-        digests,
-        extents,
-        visibility,
+
+    // The j-th extent from the first on.
+    pub fn extent(self, first: usize, j: usize) -> Extent
+        requires { HeldIn self first (j + 1) }
+        ensures { packed (extent_fields result) ≡ packed (extent_fields (extent_in self.entry first j)) }
+    {
+        match self.items.kind {
+            Kind::Records(_, _) => {
+                Extent::at(
+                    self.items.bytes,
+                    FileOffset((first + Extent::SIZE * j) as u64),
+                )
+            }
+            Kind::Entries => listed_extent(self.extents, first + j),
+        }
+    }
+
+    // An item's total length.
+    pub fn total(self, k: usize) -> u64
+        requires { LineIn self k }
+        ensures { result ≡ total_in self.entry k }
+    {
+        match self.items.kind {
+            Kind::Records(first, sh) => {
+                let at = record::begins(sh, first, k);
+                fields::total_length(self.items.bytes, at, sh.total_wide)
+            }
+            Kind::Entries => {
+                let e = Entry::at(self.items.list, k);
+                sum_listed(
+                    self.extents,
+                    e.first_extent as usize,
+                    e.extent_count as usize,
+                )
+            }
+        }
+    }
+
+    // What the items of some numbers come to.
+    pub fn measure(self, numbers: &[u16]) -> Sizes
+        requires each { Each (CountedIn self) numbers.now }
+        requires numbers_len_bound { length numbers.now ≤ record_limit }
+        ensures { result ≡ measured_in self.entry numbers.now }
+    {
+        let mut digests: u64 = 0;
+        let mut extents: u64 = 0;
+        let mut visibility: u64 = 0;
+        for &k in numbers {
+            let e = self.entry(usize::from(k));
+            digests += e.digest_length;
+            extents += e.extent_count;
+            visibility = visibility.max(e.visibility);
+        }
+        Sizes {
+            digests,
+            extents,
+            visibility,
+        }
     }
 }

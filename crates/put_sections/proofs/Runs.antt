@@ -1,13 +1,11 @@
--- A run of bytes that is cleared, and the extents of one item that are put one behind the other: what stands in the output after some turns
--- of the loop.
+-- The extents of one item, put one behind the other: what stands in the output after some turns of the loop.
 -- Assumes nothing.
 use Prim.Native.Nat.{ℕ, zero, suc, ◌+◌, ◌*◌, ◌≤◌, ◌<◌}
 use mathlib.Core.Path.{◌≡◌, refl, sym, ap, ◌∙◌}
 use mathlib.Core.List.{List, [], ◌∷◌, ◌++◌, append-nil, append_assoc}
 use native.Mathlib.Numerals.{add-one}
 use native.Mathlib.Omega.{arith}
-use borrow.Author.Fill.{fill_more}
-use lib.ListN.{length, length-set, set, drop, replicate, drop_of_length-le}
+use lib.ListN.{length}
 use Rattle.numbers.specs.Numbers.{put}
 use Rattle.numbers.proofs.NumberLaws.{put-put, length-put, put-none}
 use Rattle.segment.specs.declared.extent.Extent.{Extent}
@@ -19,30 +17,6 @@ use Rattle.key.specs.declared.Kind.{Kind}
 use Rattle.key.specs.declared.Kind.TheVariants.{Records, Entries}
 use Rattle.put_item.specs.Lines.{Held, item_extent, item_extents}
 use Rattle.put_item.proofs.ItemRows.{extents-length, extents-none}
-
--- ---- zeros
-
-pub record Clearing (out₀ : List ℕ) (i : ℕ) (out : List ℕ) : Type 0 where
-  pub within : i ≤ length out₀
-  pub same : length out ≡ length out₀
-  pub done : out ≡ replicate i 0 ++ drop i out₀
-
-pub clearing-start : (out : List ℕ) → Clearing out 0 out
-clearing-start out = record { within = omega arith; same = refl; done = refl }
-
-module _ (out₀ : List ℕ) (i : ℕ) (out : List ℕ) (c : Clearing out₀ i out) where
-  pub clearing-more : i < length out → Clearing out₀ (i + 1) (set out i 0)
-  clearing-more h = record {
-    within = omega (arith, c.same);
-    same = length-set out i 0 ∙ c.same;
-    done = ap (λ (o : List ℕ). set o i 0) c.done ∙ fill_more i 0 out₀ (omega (arith, c.same));
-  }
-
-  pub clearing-done : length out ≤ i → out ≡ replicate (length out₀) 0
-  clearing-done h =
-      let n : i ≡ length out₀ = omega (arith, c.same, c.within) in
-      let d : length out₀ ≤ i = omega arith in
-      c.done ∙ rw (drop_of_length-le out₀ d, n) (append-nil (replicate (length out₀) 0))
 
 -- ---- the extents of one item
 

@@ -25,7 +25,7 @@ use Rattle.key.specs.Items.{item_digest}
 use Rattle.lists.proofs.Each.{each_at}
 use Rattle.put_item.specs.Lines.{item_entry, item_extents, Held, item_total, extents_of_entry, item_row, item_rows, Narrow, Line, Lines, record_of_entry}
 use Rattle.put_item.proofs.ItemRows.{extents-length, row-extents, row_count, row-digest-length, row-record}
-use Rattle.put_sections.specs.Sections.{item_digests}
+use Rattle.put_sections.specs.Sections.{Near, item_digests}
 use Rattle.put_sections.proofs.Filling.{Filling, filling-start, filling-done, filling-room, filling-more}
 
 -- ---- records
@@ -60,8 +60,11 @@ module _ (sh : Shape) (wf : Shaped sh) (h : Header) (kind : Kind) (bytes list ex
       pub record-narrow : Narrow e
       record-narrow = rw q here.counted.narrow
 
-      pub record-small : (e.digest_length ≤ 1024) × (e.extent_count < 4294967296)
-      record-small = (record-narrow.digest, record-narrow.extents)
+      -- the places behind this record's digest and extents fit a number
+      pub record-fits : Near h numbers → (d + e.digest_length < 18446744073709551616) × (x + 16 * e.extent_count < 18446744073709551616)
+      record-fits near =
+          let s = record-narrow in
+          (omega (arith, s.digest, w.short, near.few, near.digests), omega (arith, s.extents, w.few, near.few, near.extents))
 
       next : records_bytes sh h.domain (item_rows kind bytes list extents (drop k numbers)) d x
           ≡ packed (record_fields sh (record_of_entry e (item_total kind bytes list extents (get_or numbers k 0)) h.domain d x))
@@ -89,7 +92,7 @@ module _ (sh : Shape) (wf : Shaped sh) (h : Header) (kind : Kind) (bytes list ex
           let room : sh.record_size * k + length bs ≤ length out = omega (arith, i, record-room sh.record_size (length numbers) k (length out) l (w.same ∙ n)) in
           let g = filling-more all out (sh.record_size * k) _ w.filling bs _ f out' u room in
           let j : sh.record_size * k + length bs ≡ sh.record_size * (k + 1) = omega arith in
-          let s = record-small in
+          let s = record-narrow in
           record {
             within = omega arith;
             same = ap length u ∙ length-put out (sh.record_size * k) bs room ∙ w.same;

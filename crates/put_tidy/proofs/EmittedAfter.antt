@@ -4,20 +4,19 @@ use Prim.Native.Nat.{ℕ}
 use mathlib.Core.Path.{◌≡◌, refl, ap, ◌∙◌}
 use mathlib.Core.List.{List}
 use lib.ListN.{length}
+use Rattle.std.specs.Prelude.{Err}
+use Rattle.answer.specs.Answers.{Written}
+use Rattle.answer.specs.Rules.{Verdict, accepted}
 use Rattle.answer.specs.declared.Refusal.{Refusal}
-use Rattle.answer.specs.declared.Verdict.{Verdict}
-use Rattle.answer.specs.declared.Verdict.TheVariants.{Accepted, Refused}
-use Rattle.answer.specs.declared.Written.{Written}
-use Rattle.answer.specs.declared.Written.TheVariants.{Refused as NotWritten}
 use Rattle.segment.specs.Tidy.{settled, output_after, outcome}
 use Rattle.put_form.specs.Emit.{EmittedAfter, Emitted}
 
 module _ (v : Verdict) (form out : List ℕ) where
-  pub emitted-refused : (x : Refusal) → v ≡ Refused x → EmittedAfter v form out out (NotWritten x)
+  pub emitted-refused : (x : Refusal) → v ≡ Err x → EmittedAfter v form out out (Err x)
   unfolding settled
   emitted-refused x e = record { answer = rw e; output = refl }
 
-  pub emitted-written : (form' after : List ℕ) (w : Written) → v ≡ Accepted → form' ≡ form → Emitted form' out after w → EmittedAfter v form out after w
+  pub emitted-written : (form' after : List ℕ) (w : Written) → v ≡ accepted → form' ≡ form → Emitted form' out after w → EmittedAfter v form out after w
   emitted-written form' after w e f h = record { answer = rw (e, ← f) h.answer; output = rw (← f) h.output }
 
   -- a verdict that comes to the same

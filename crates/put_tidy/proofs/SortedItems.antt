@@ -3,8 +3,10 @@
 use Prim.Native.Nat.{ℕ, ◌≤◌}
 use mathlib.Core.Path.{◌≡◌, ap, subst, ◌∙◌}
 use mathlib.Core.List.{List}
-use lib.ListN.{length}
-use Rattle.answer.specs.declared.Written.{Written}
+use native.Mathlib.Omega.{arith}
+use lib.ListN.{length, take, replicate, length-replicate}
+use lib.Seq.{length-take-le}
+use Rattle.answer.specs.Answers.{Written}
 use Rattle.segment.specs.declared.header.Heading.{Heading}
 use Rattle.segment.specs.declared.shape.Shape.{Shape}
 use Rattle.lists.specs.Lists.{count_from}
@@ -12,12 +14,13 @@ use Rattle.segment.specs.Tidy.{form_of, tidy_form}
 use Rattle.key.specs.declared.Kind.{Kind}
 use Rattle.key.specs.Items.{Items}
 use Rattle.key_sort.specs.Sorted.{Sorted}
-use Rattle.key_sort.proofs.Counting.{front, front_long}
 use Rattle.key_sort.proofs.Numbered.{sorted-each}
 use Rattle.put_item.specs.Lines.{item_rows, Lines, Line}
 use Rattle.put_item.proofs.ItemRows.{rows-sorted}
 use Rattle.put_form.specs.Emit.{Emitted}
-use Rattle.put_tidy.specs.ItemsForm.{AllLines, items_form}
+use Rattle.put_form.specs.declared.Frame.{Frame}
+use Rattle.put_item.specs.declared.Source.{Source}
+use Rattle.put_tidy.specs.ItemsForm.{AllLines, items_form, AllLinesIn, form_in}
 
 module _ (kind : Kind) (bytes list extents : List ℕ) (n : ℕ) where
   pub lines-read : AllLines kind bytes list extents n → Items kind bytes list n
@@ -37,10 +40,16 @@ module _ (kind : Kind) (bytes list extents : List ℕ) (n : ℕ) where
 
 -- ---- the front of an array of m numbers, lent for n of them
 
-module _ (m n : ℕ) (h : n ≤ m) (kind : Kind) (bytes list extents : List ℕ) where
-  pub lent-lines : AllLines kind bytes list extents n → AllLines kind bytes list extents (length (front m n))
-  lent-lines a = rw (front_long m n h) a
+abbrev pub front : ℕ → ℕ → List ℕ
+front m n = take n (replicate m 0)
 
-  pub lent-wrote : (sh : Shape) (t : Heading) (bloom out after : List ℕ) (w : Written) → Emitted (items_form sh t bloom kind bytes list extents (length (front m n))) out after w
-      → Emitted (items_form sh t bloom kind bytes list extents n) out after w
-  lent-wrote sh t bloom out after w x = rw (front_long m n h) at x
+pub front-long : (m n : ℕ) → n ≤ m → length (front m n) ≡ n
+front-long m n h = length-take-le n (replicate m 0) (omega (arith, length-replicate {A = ℕ} m 0))
+
+module _ (m n : ℕ) (h : n ≤ m) (source : Source) where
+  pub lent-lines : AllLinesIn source n → AllLinesIn source (length (front m n))
+  lent-lines a = rw (front-long m n h) a
+
+  pub lent-wrote : (frame : Frame) (out after : List ℕ) (w : Written) → Emitted (form_in frame source (length (front m n))) out after w
+      → Emitted (form_in frame source n) out after w
+  lent-wrote frame out after w x = rw (front-long m n h) at x

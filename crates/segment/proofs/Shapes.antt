@@ -3,7 +3,7 @@
 --   shaped-least, shaped-most, shaped-divides   a record's size
 --   shaped-limit    a total
 --   records-fit     the bytes of a segment's records
---   fields-inside, total_inside   in a record that lies in the segment, the fields that every version has and the total lie there too
+--   total_inside    in a record that lies in the segment, the total lies there too
 -- Assumes nothing.
 use Prim.Native.Nat.{ℕ, ◌+◌, ◌*◌, ◌%◌, ◌≤◌, ◌<◌}
 use mathlib.Core.Path.{◌≡◌, refl, ap, subst, ◌∙◌}
@@ -48,9 +48,5 @@ module _ (sh : Shape) (w : Shaped sh) where
   pub records-fit : (n : ℕ) → n ≤ 65536 → sh.record_size * n < 18446744073709551616
   records-fit n l = omega (arith, mul-le-mul shaped-most l)
 
-  module _ (s : List ℕ) (at : ℕ) (h : at + sh.record_size ≤ length s) where
-    pub fields-inside : at + 48 ≤ length s
-    fields-inside = omega (arith, shaped-least)
-
-    pub total_inside : at + record_bytes sh.total_wide ≤ length s
-    total_inside = subst (λ (n : ℕ). at + n ≤ length s) w.size h
+  pub total_inside : (s : List ℕ) (at : ℕ) → at + sh.record_size ≤ length s → at + record_bytes sh.total_wide ≤ length s
+  total_inside s at h = subst (λ (n : ℕ). at + n ≤ length s) w.size h

@@ -4,12 +4,11 @@ use Prim.Native.Nat.{ℕ}
 use mathlib.Core.Path.{◌≡◌, refl, sym, ap, ◌∙◌}
 use mathlib.Core.List.{List, [], ◌∷◌}
 use lib.ListN.{get_or}
+use Rattle.std.specs.Prelude.{Option, None, Some, Ok, Err}
 use Rattle.answer.proofs.Settled.{taken, taken_refused}
 use Rattle.segment.specs.declared.record.Record.{Record}
-use Rattle.segment.specs.declared.step.Step.{Step}
-use Rattle.segment.specs.declared.step.Step.TheVariants.{Row, Done, Refused}
 use Rattle.segment.specs.Format.{in_file}
-use Rattle.segment.specs.Walk.{step_answer}
+use Rattle.segment.specs.Walk.{step_answer, Step}
 
 -- the record of thirteen values
 record_from : List ℕ → Record
@@ -29,16 +28,16 @@ record_from vs = record {
   flags = get_or vs 12 0;
 }
 
--- with no value it is done, and with any it is a record
-step_from : List ℕ → Step
-step_from [] = Done
-step_from (v ∷ vs) = Row (record_from (v ∷ vs))
+-- with no value they are done, and with any it is a record
+step_from : List ℕ → Option Record
+step_from [] = None
+step_from (v ∷ vs) = Some (record_from (v ∷ vs))
 
-step_back : (t : Step) → taken Refused step_from (step_answer t) ≡ t
+step_back : (t : Step) → taken step_from (step_answer t) ≡ t
 unfolding taken step_from record_from
-step_back (Row r) = refl
-step_back Done = refl
-step_back (Refused r) = taken_refused Refused step_from r
+step_back (Ok (Some r)) = refl
+step_back (Ok None) = refl
+step_back (Err r) = taken_refused step_from r
 
 pub step-settled : (t u : Step) → step_answer t ≡ step_answer u → t ≡ u
-step-settled t u e = sym (step_back t) ∙ ap (taken Refused step_from) e ∙ step_back u
+step-settled t u e = sym (step_back t) ∙ ap (taken step_from) e ∙ step_back u

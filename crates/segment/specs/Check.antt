@@ -22,8 +22,7 @@ use Rattle.answer.specs.declared.Rule.TheVariants.{
   Total,
   Visibility,
 }
-use Rattle.answer.specs.declared.Verdict.{Verdict}
-use Rattle.answer.specs.Rules.{must, ◌then◌, first_over}
+use Rattle.answer.specs.Rules.{must, ◌then◌, first_over, Verdict}
 use Rattle.answer.specs.Answers.{Answer, refusal, check_answer}
 use Rattle.segment.specs.declared.header.Header.{Header}
 use Rattle.segment.specs.declared.record.Record.{Record}

@@ -11,8 +11,7 @@ use Rattle.std.specs.Prelude.{ℕ, ◌<◌, ◌≡◌, Bool, not, List, ◌∷�
 use Rattle.lists.specs.Lists.{eq_list}
 use Rattle.table.specs.Table.{allows}
 use Rattle.answer.specs.declared.Rule.TheVariants.{Duplicate}
-use Rattle.answer.specs.declared.Verdict.{Verdict}
-use Rattle.answer.specs.Rules.{must, some_below}
+use Rattle.answer.specs.Rules.{must, some_below, Verdict}
 use Rattle.answer.specs.Answers.{refusal}
 
 pub record Key : Type 0 where

@@ -1,16 +1,16 @@
 -- docs/SERVICES.md, "Look up": 14, then 17, then as check; on an accepted segment absent; gone, with visibility, domain and source; or present,
 -- with these, the total length and the part of the lent segment that holds its extents.
 --   found_over     the first of 0, 1, .. below n that is not absent
---   looked_up      what look up answers
+--   looked_up      what look up answers: what is found, or a refusal
 --   look_up_of      the same in numbers
 --   extents_part   the part of the segment that an answer speaks of
 -- Assumes nothing: these are definitions.
-use Rattle.std.specs.Prelude.{ℕ, zero, suc, ◌*◌, cond, List, [], take, drop}
+use Rattle.std.specs.Prelude.{ℕ, zero, suc, ◌*◌, cond, List, [], take, drop, Result, Ok, Err}
+use Rattle.answer.specs.declared.Refusal.{Refusal}
 use Rattle.answer.specs.declared.Rule.TheVariants.{Key as KeyWrong}
-use Rattle.answer.specs.declared.Verdict.{Verdict}
 use Rattle.answer.specs.declared.Found.{Found}
-use Rattle.answer.specs.declared.Found.TheVariants.{Absent, Gone, Present, Refused}
-use Rattle.answer.specs.Rules.{must, ◌then◌, after}
+use Rattle.answer.specs.declared.Found.TheVariants.{Absent, Gone, Present}
+use Rattle.answer.specs.Rules.{must, ◌then◌, Verdict}
 use Rattle.answer.specs.Answers.{Answer, refusal, found_answer}
 use Rattle.segment.specs.declared.header.Header.{Header}
 use Rattle.segment.specs.declared.record.Record.{Record}
@@ -38,7 +38,6 @@ abbrev pub ◌or_else◌ : Found → Found → Found
 Absent or_else g = g
 Gone v d s or_else g = Gone v d s
 Present v d s t a n or_else g = Present v d s t a n
-Refused r or_else g = Refused r
 
 unfoldable pub found_over : ℕ → (ℕ → Found) → Found
 found_over zero f = Absent
@@ -51,18 +50,21 @@ found_no sh s h key k = cond (eq_list (key_no sh s h k) (key_of key)) (record_fo
 unfoldable pub found_in : Shape → List ℕ → Header → Key → Found
 found_in sh s h key = found_over (record_count h) (found_no sh s h key)
 
--- under a good table: 17, then as check
-unfoldable pub found_under : List ℕ → List ℕ → Key → Found
-found_under pairs s key = after Refused (key_verdict pairs key then segment_verdict v3 pairs s) (found_in v3 s (header_of s) key)
+abbrev pub LookedUp : Type 0
+LookedUp = Result Found Refusal
 
-unfoldable pub looked_up : List ℕ → List ℕ → Key → Found
-looked_up pairs s key = after Refused (table_verdict pairs) (found_under pairs s key)
+-- under a good table: 17, then as check
+unfoldable pub found_under : List ℕ → List ℕ → Key → LookedUp
+found_under pairs s key = key_verdict pairs key then segment_verdict v3 pairs s then Ok (found_in v3 s (header_of s) key)
+
+unfoldable pub looked_up : List ℕ → List ℕ → Key → LookedUp
+looked_up pairs s key = table_verdict pairs then found_under pairs s key
 
 unfoldable pub look_up_of : List ℕ → List ℕ → Key → Answer
 look_up_of pairs s key = found_answer (looked_up pairs s key)
 
-unfoldable pub extents_part : Found → List ℕ → List ℕ
-extents_part Absent s = []
-extents_part (Gone v d src) s = []
-extents_part (Present v d src t at n) s = take (extent_size * n) (drop at.0 s)
-extents_part (Refused r) s = []
+unfoldable pub extents_part : LookedUp → List ℕ → List ℕ
+extents_part (Ok Absent) s = []
+extents_part (Ok (Gone v d src)) s = []
+extents_part (Ok (Present v d src t at n)) s = take (extent_size * n) (drop at.0 s)
+extents_part (Err r) s = []

@@ -4,10 +4,9 @@
 --   meaning_of       the meaning of an accepted segment
 --   SameMeaning     two meanings are the same
 -- Assumes nothing: these are definitions.
-use Rattle.std.specs.Prelude.{ℕ, ◌-◌, ◌≡◌, cond, ◌↔◌, eqb, length, take, drop}
+use Rattle.std.specs.Prelude.{ℕ, ◌-◌, ◌≡◌, cond, ◌↔◌, eqb, length, take, drop, None, Some}
 use mathlib.Core.List.{List, [], map, Mem}
-use Rattle.answer.specs.declared.Source.{Source}
-use Rattle.answer.specs.declared.Source.TheVariants.{None, Domain}
+use Rattle.answer.specs.Answers.{Source}
 use Rattle.segment.specs.declared.header.Header.{Header}
 use Rattle.segment.specs.declared.header.Heading.{Heading}
 use Rattle.segment.specs.declared.record.Record.{Record}
@@ -46,7 +45,7 @@ pub record Meaning : Type 0 where
 
 -- an imported record has its source domain, any other has none
 abbrev pub source_of : ℕ → ℕ → Source
-source_of imported domain = cond (eqb imported 0) None (Domain domain)
+source_of imported domain = cond (eqb imported 0) None (Some domain)
 
 unfoldable pub row_of : List ℕ → Record → Row
 row_of s r = record {

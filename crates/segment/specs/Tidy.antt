@@ -6,17 +6,12 @@
 --   tidied, tidy_of    what tidy answers, and what it leaves in the output
 --   tidy_length_of      what the call answers that tells the tidy form's length and writes nothing
 -- Assumes nothing: these are definitions.
-use Rattle.std.specs.Prelude.{ℕ, ◌+◌, ◌-◌, ◌*◌, ◌%◌, max, Bool, cond, List, [], ◌∷◌, ◌++◌, leb, length, drop, replicate}
+use Rattle.std.specs.Prelude.{ℕ, ◌+◌, ◌-◌, ◌*◌, ◌%◌, max, Bool, cond, List, [], ◌∷◌, ◌++◌, leb, length, drop, replicate, None, Some, Ok, Err}
 use Rattle.numbers.specs.Numbers.{bytes_of}
 use Rattle.crc64.specs.Crc.{crc}
 use Rattle.answer.specs.declared.Rule.TheVariants.{Room, Large}
-use Rattle.answer.specs.declared.Source.{Source}
-use Rattle.answer.specs.declared.Source.TheVariants.{None, Domain}
-use Rattle.answer.specs.declared.Verdict.{Verdict}
-use Rattle.answer.specs.declared.Written.{Written}
-use Rattle.answer.specs.declared.Written.TheVariants.{Done, Refused}
-use Rattle.answer.specs.Rules.{must, ◌then◌, after}
-use Rattle.answer.specs.Answers.{Answer, refusal, written_answer}
+use Rattle.answer.specs.Rules.{must, ◌then◌, Verdict}
+use Rattle.answer.specs.Answers.{Answer, refusal, written_answer, Source, Written}
 use Rattle.segment.specs.declared.header.Header.{Header}
 use Rattle.segment.specs.declared.header.Heading.{Heading}
 use Rattle.segment.specs.declared.record.Record.{Record}
@@ -82,11 +77,11 @@ footer_fields f = u64 f.checksum ∷ u64 f.seal_snapshot ∷ u64 f.seal_time ∷
 
 abbrev pub imported_of : Source → ℕ
 imported_of None = 0
-imported_of (Domain d) = 1
+imported_of (Some d) = 1
 
 abbrev pub domain_of : Source → ℕ
 domain_of None = 0
-domain_of (Domain d) = d
+domain_of (Some d) = d
 
 abbrev pub flags_of : State → ℕ
 flags_of gone = 1
@@ -214,8 +209,8 @@ room_verdict n room = limit_verdict n then must (leb n room) (refusal Room 0)
 
 -- what stands in the output afterwards: the result and the bytes that stood after it, or what stood there before
 abbrev pub output_after : Written → List ℕ → List ℕ → List ℕ
-output_after (Done n) result out = result ++ drop n out
-output_after (Refused r) result out = out
+output_after (Ok n) result out = result ++ drop n out
+output_after (Err r) result out = out
 
 pub record Outcome : Type 0 where
   pub answer : Answer
@@ -226,7 +221,7 @@ outcome w out = record { answer = written_answer w; output = out }
 
 -- a result for an output of some room, where nothing before it is refused
 unfoldable pub settled : Verdict → List ℕ → ℕ → Written
-settled v result room = after Refused (v then room_verdict (length result) room) (Done (length result))
+settled v result room = (v then room_verdict (length result) room) then Ok (length result)
 
 -- as check, then 16, 13
 unfoldable pub tidied : List ℕ → List ℕ → ℕ → Written
@@ -236,7 +231,7 @@ tidied pairs s room = settled (checked pairs s) (tidy_form v3 (meaning_of v3 s))
 unfoldable pub tidy_sized : List ℕ → List ℕ → Written
 tidy_sized pairs s =
     let n = length (tidy_form v3 (meaning_of v3 s)) in
-    after Refused (checked pairs s then limit_verdict n) (Done n)
+    (checked pairs s then limit_verdict n) then Ok n
 
 unfoldable pub tidy_length_of : List ℕ → List ℕ → Answer
 tidy_length_of pairs s = written_answer (tidy_sized pairs s)

@@ -9,10 +9,8 @@
 -- Assumes nothing: these are definitions.
 use Rattle.std.specs.Prelude.{ℕ, zero, suc, ◌+◌, ◌*◌, ◌/◌, ◌%◌, Bool, true, cond, ◌&&◌, ◌||◌, List, [], ◌∷◌, map, leb, ltb, eqb, length, get_or, take, drop}
 use Rattle.answer.specs.declared.Rule.TheVariants.{LayoutBloom, Record, Digest, Extents, Total, List as ListEnd, Large}
-use Rattle.answer.specs.declared.Verdict.{Verdict}
-use Rattle.answer.specs.declared.Written.{Written}
-use Rattle.answer.specs.Rules.{must, ◌then◌, first_over}
-use Rattle.answer.specs.Answers.{refusal}
+use Rattle.answer.specs.Rules.{must, ◌then◌, first_over, Verdict}
+use Rattle.answer.specs.Answers.{refusal, Written}
 use Rattle.segment.specs.declared.header.Heading.{Heading}
 use Rattle.segment.specs.declared.entry.Entry.{Entry}
 use Rattle.segment.specs.declared.extent.Extent.{Extent}

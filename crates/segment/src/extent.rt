@@ -2,6 +2,7 @@
 ghost use Rattle.std.specs.Prelude.{◌≡◌, ◌+◌, ◌≤◌, length};
 ghost use Rattle.segment.specs.Format.{extent_size, extent_of};
 
+use field_record::extent as fields;
 use offset::{BlockOffset, FileOffset};
 
 #[derive(Clone, Copy)]
@@ -21,14 +22,15 @@ impl Extent {
     pub const LONG: u64 = Extent::SIZE as u64;
 
     // The extent that begins at a place.
+    #[tactic(auto, unfolding(crate::specs::Format::extent_of))]
     pub fn at(seg: &[u8], at: FileOffset) -> Self
         requires { at.0 + extent_size ≤ length seg.now }
         ensures { result ≡ extent_of seg.now at.0 }
     {
         Self {
-            block: field_record::extent::block(seg, at),
-            offset: field_record::extent::offset(seg, at),
-            length: field_record::extent::length(seg, at),
+            block: fields::BLOCK.read(seg, at),
+            offset: fields::OFFSET.read(seg, at),
+            length: fields::LENGTH.read(seg, at),
         }
     }
 }

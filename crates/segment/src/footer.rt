@@ -2,6 +2,7 @@
 ghost use Rattle.std.specs.Prelude.{◌≡◌, ◌+◌, ◌≤◌, length};
 ghost use Rattle.segment.specs.Format.{footer_size, footer_of};
 
+use field_frame::footer as fields;
 use offset::FileOffset;
 
 #[derive(Clone, Copy)]
@@ -18,14 +19,15 @@ impl Footer {
     pub const LONG: u64 = Footer::SIZE as u64;
 
     // The footer that begins at a place.
+    #[tactic(auto, unfolding(crate::specs::Format::footer_of))]
     pub fn at(seg: &[u8], at: FileOffset) -> Self
         requires { at.0 + footer_size ≤ length seg.now }
         ensures { result ≡ footer_of seg.now at.0 }
     {
         Self {
-            checksum: field_frame::footer::checksum(seg, at),
-            seal_snapshot: field_frame::footer::seal_snapshot(seg, at),
-            seal_time: field_frame::footer::seal_time(seg, at),
+            checksum: fields::CHECKSUM.read(seg, at),
+            seal_snapshot: fields::SEAL_SNAPSHOT.read(seg, at),
+            seal_time: fields::SEAL_TIME.read(seg, at),
         }
     }
 }

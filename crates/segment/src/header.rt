@@ -3,6 +3,7 @@ ghost use Rattle.std.specs.Prelude.{◌≡◌, ◌≤◌, length};
 ghost use Rattle.segment.specs.Format.{header_size, header_of};
 ghost use Rattle.segment.specs.Check.{bloom_place};
 
+use field_frame::header as fields;
 use offset::FileOffset;
 
 #[derive(Clone, Copy)]
@@ -48,30 +49,32 @@ impl Header {
     pub const STATED: u32 = Header::SIZE as u32;
 
     // The segment's header.
+    #[tactic(auto, unfolding(crate::specs::Format::header_of))]
     pub fn of(seg: &[u8]) -> Self
         requires { header_size ≤ length seg.now }
         ensures { result ≡ header_of seg.now }
     {
+        let front = FileOffset(0);
         Self {
-            magic: field_frame::header::magic(seg),
-            version: field_frame::header::version(seg),
-            shard: field_frame::header::shard(seg),
-            header_size: field_frame::header::header_size(seg),
-            snapshot_min: field_frame::header::snapshot_min(seg),
-            snapshot_max: field_frame::header::snapshot_max(seg),
-            record_count: field_frame::header::record_count(seg),
-            records_offset: field_frame::header::records_offset(seg),
-            bloom_offset: field_frame::header::bloom_offset(seg),
-            bloom_size: field_frame::header::bloom_size(seg),
-            digests_offset: field_frame::header::digests_offset(seg),
-            digests_size: field_frame::header::digests_size(seg),
-            extents_offset: field_frame::header::extents_offset(seg),
-            extent_count: field_frame::header::extent_count(seg),
-            domain: field_frame::header::domain(seg),
-            visibility: field_frame::header::visibility(seg),
-            federation: field_frame::header::federation(seg),
-            reserved: field_frame::header::reserved(seg),
-            flags: field_frame::header::flags(seg),
+            magic: fields::MAGIC.read(seg, front),
+            version: fields::VERSION.read(seg, front),
+            shard: fields::SHARD.read(seg, front),
+            header_size: fields::HEADER_SIZE.read(seg, front),
+            snapshot_min: fields::SNAPSHOT_MIN.read(seg, front),
+            snapshot_max: fields::SNAPSHOT_MAX.read(seg, front),
+            record_count: fields::RECORD_COUNT.read(seg, front),
+            records_offset: fields::RECORDS_OFFSET.read(seg, front),
+            bloom_offset: fields::BLOOM_OFFSET.read(seg, front),
+            bloom_size: fields::BLOOM_SIZE.read(seg, front),
+            digests_offset: fields::DIGESTS_OFFSET.read(seg, front),
+            digests_size: fields::DIGESTS_SIZE.read(seg, front),
+            extents_offset: fields::EXTENTS_OFFSET.read(seg, front),
+            extent_count: fields::EXTENT_COUNT.read(seg, front),
+            domain: fields::DOMAIN.read(seg, front),
+            visibility: fields::VISIBILITY.read(seg, front),
+            federation: fields::FEDERATION.read(seg, front),
+            reserved: fields::RESERVED.read(seg, front),
+            flags: fields::FLAGS.read(seg, front),
         }
     }
 }

@@ -1,5 +1,5 @@
 // The parts of a segment as docs/FORMAT.md lays them out: the four kinds with their sizes and constructors, the shape of a
-// version, an entry of write, and a step of the walk. What the fields and the services mean is written in specs/.
+// version, and an entry of write. What the fields and the services mean is written in specs/.
 #![tactic(auto)]
 
 ghost use Rattle.std.specs.Prelude.{◌≡◌, ◌+◌, ◌≤◌};
@@ -11,7 +11,6 @@ pub mod footer;
 pub mod header;
 pub mod record;
 pub mod shape;
-pub mod step;
 
 // A number of bytes with the zeros that it lacks to a multiple of 8.
 pub fn padded(n: u64) -> u64

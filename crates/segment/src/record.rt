@@ -29,25 +29,26 @@ impl Record {
     pub const SIZE: usize = 48;
 
     // The record that begins at a place. Private, since it requires something and `Record` is part of the interface.
+    #[tactic(auto, unfolding(crate::specs::Format::record_of))]
     fn at(sh: Shape, seg: &[u8], at: FileOffset) -> Self
         requires shaped { Shaped sh }
         requires record_size_in_bounds { at.0 + sh.record_size ≤ length seg.now }
         ensures { result ≡ record_of sh seg.now at.0 }
     {
         Self {
-            hash_id: fields::hash_id(seg, at),
-            digest_length: fields::digest_length(seg, at),
-            reserved: fields::reserved(seg, at),
-            digest_offset: fields::digest_offset(seg, at),
-            extents_offset: fields::extents_offset(seg, at),
-            extent_count: fields::extent_count(seg, at),
+            hash_id: fields::HASH_ID.read(seg, at),
+            digest_length: fields::DIGEST_LENGTH.read(seg, at),
+            reserved: fields::RESERVED.read(seg, at),
+            digest_offset: fields::DIGEST_OFFSET.read(seg, at),
+            extents_offset: fields::EXTENTS_OFFSET.read(seg, at),
+            extent_count: fields::EXTENT_COUNT.read(seg, at),
             total_length: fields::total_length(seg, at, sh.total_wide),
-            domain: fields::domain(seg, at),
-            visibility: fields::visibility(seg, at),
-            imported: fields::imported(seg, at),
-            reserved_last: fields::reserved_last(seg, at),
-            source: fields::source(seg, at),
-            flags: fields::flags(seg, at),
+            domain: fields::DOMAIN.read(seg, at),
+            visibility: fields::VISIBILITY.read(seg, at),
+            imported: fields::IMPORTED.read(seg, at),
+            reserved_last: fields::RESERVED_LAST.read(seg, at),
+            source: fields::SOURCE.read(seg, at),
+            flags: fields::FLAGS.read(seg, at),
         }
     }
 }

@@ -1,9 +1,8 @@
--- The laws by which a loop over a table's pairs goes on: what a list of pairs says is what its rest says, once the pair in front
--- has been looked at.
+-- What a list of pairs says once the pair in front has been looked at, and what is known of a table.
 -- Assumes nothing.
 use Prim.Native.Nat.{ℕ, suc, ◌+◌, ◌-◌, ◌≤◌, ◌<◌}
-use mathlib.Core.Path.{◌≡◌, refl, sym, ap, ◌∙◌}
-use mathlib.Core.Bool.{Bool, true, false, ◌&&◌, false≢true}
+use mathlib.Core.Path.{◌≡◌, refl, sym, ◌∙◌}
+use mathlib.Core.Bool.{true, false, ◌&&◌, ◌||◌, not, false≢true}
 use mathlib.Core.Logic.{⊎_elim}
 use mathlib.Core.List.{List, [], ◌∷◌, ◌++◌}
 use native.Mathlib.Nat.{le_refl}
@@ -11,115 +10,58 @@ use native.Mathlib.Numerals.{add-one}
 use native.Mathlib.Omega.{arith}
 use borrow.Author.Tests.{leb-true}
 use lib.Dec.{leb, eqb}
-use lib.ListN.{length, get_or, take, drop, set, replicate, length-append, length-drop, drop_of_length-le}
-use lib.Seq.{drop-cons, take_all, take-suc, set_at, take_at, length-take-le, append_snoc}
+use lib.ListN.{length, get_or, take, drop, set, replicate, length-append}
+use lib.Seq.{take_all, take-suc, set_at, take_at, length-take-le, append_snoc}
 use Rattle.lists.proofs.Tests.{tests, and-iff, or-either, leb-iff, ltb_iff, eqb-iff}
-use Rattle.table.specs.Table.{stands, good_pairs, good_table, allows, by_value}
+use Rattle.table.specs.Table.{stands, good_pair, good_pairs, good_table, allows, by_value}
 
--- a loop over p has come to k, and f says of p what it says of the rest
-pub record Rest (f : List ℕ → Bool) (p : List ℕ) (k : ℕ) : Type 0 where
-  pub within : k ≤ length p
-  pub same : f p ≡ f (drop k p)
+-- ---- a pair in front, and what says no more
 
-pub at-start : (f : List ℕ → Bool) (p : List ℕ) → Rest f p 0
-at-start f p = record { within = omega arith; same = refl }
+module _ (pair after : List ℕ) (two : length pair ≡ 2) where
+  in_front : pair ++ after ≡ get_or pair 0 0 ∷ get_or pair 1 0 ∷ after
+  in_front = both pair two
+    where
+      both : (pair : List ℕ) → length pair ≡ 2 → pair ++ after ≡ get_or pair 0 0 ∷ get_or pair 1 0 ∷ after
+      both [] e = cc
+      both (x ∷ []) e = cc
+      both (x ∷ n ∷ []) e = refl
+      both (x ∷ n ∷ y ∷ q) e = absurd (omega arith)
 
--- the pair at k, and what follows it
-pair-at : (p : List ℕ) (k : ℕ) → 1 < length p - k → drop k p ≡ get_or p k 0 ∷ get_or p (k + 1) 0 ∷ drop (k + 2) p
-pair-at p k h =
-    let l : k < length p = omega arith in
-    let m : suc k < length p = omega arith in
-    let e : k + 2 ≡ suc (suc k) = omega arith in
-    rw (add-one, e, drop-cons p k 0, drop-cons p (suc k) 0)
+  pub stands_pair : (hash : ℕ) → stands (pair ++ after) hash ≡ (eqb (get_or pair 0 0) hash || stands after hash)
+  unfolding stands
+  stands_pair hash = rw in_front
 
-goes_on : {f : List ℕ → Bool} {p : List ℕ} {k : ℕ} → Rest f p k → 1 < length p - k → f (drop k p) ≡ f (drop (k + 2) p) → Rest f p (k + 2)
-goes_on r h e = record { within = omega arith; same = r.same ∙ e }
+  pub allows_pair : (hash len : ℕ) → allows (pair ++ after) hash len ≡ ((eqb (get_or pair 0 0) hash && eqb (get_or pair 1 0) len) || allows after hash len)
+  unfolding allows
+  allows_pair hash len = rw in_front
 
--- ---- a hash id among the pairs
-
-stands-none : (q : List ℕ) (hash : ℕ) → length q ≤ 1 → stands q hash ≡ false
+pub stands_none : (q : List ℕ) (hash : ℕ) → length q < 2 → stands q hash ≡ false
 unfolding stands
-stands-none [] hash h = refl
-stands-none (x ∷ []) hash h = refl
-stands-none (x ∷ y ∷ q) hash h = absurd (omega arith)
+stands_none [] hash h = refl
+stands_none (x ∷ []) hash h = refl
+stands_none (x ∷ y ∷ q) hash h = absurd (omega arith)
 
-module _ (p : List ℕ) (k hash : ℕ) (r : Rest (λ q. stands q hash) p k) where
-  pub stands_here : 1 < length p - k → get_or p k 0 ≡ hash → true ≡ stands p hash
-  unfolding stands
-  stands_here h e = sym (r.same ∙ rw (pair-at p k h) (simp tests))
-
-  pub stands-later : 1 < length p - k → (get_or p k 0 ≡ hash → ⊥) → Rest (λ q. stands q hash) p (k + 2)
-  unfolding stands
-  stands-later h e = goes_on r h (rw (pair-at p k h) (simp tests))
-
-  pub stands-nowhere : length p - k ≤ 1 → false ≡ stands p hash
-  stands-nowhere h = sym (r.same ∙ stands-none (drop k p) hash (rw length-drop h))
-
--- ---- a hash id with a length among the pairs
-
-allows-none : (q : List ℕ) (hash len : ℕ) → length q ≤ 1 → allows q hash len ≡ false
+pub allows_none : (q : List ℕ) (hash len : ℕ) → length q < 2 → allows q hash len ≡ false
 unfolding allows
-allows-none [] hash len h = refl
-allows-none (x ∷ []) hash len h = refl
-allows-none (x ∷ y ∷ q) hash len h = absurd (omega arith)
+allows_none [] hash len h = refl
+allows_none (x ∷ []) hash len h = refl
+allows_none (x ∷ y ∷ q) hash len h = absurd (omega arith)
 
-module _ (p : List ℕ) (k hash len : ℕ) (r : Rest (λ q. allows q hash len) p k) where
-  pub allows-here : 1 < length p - k → get_or p k 0 ≡ hash → get_or p (k + 1) 0 ≡ len → true ≡ allows p hash len
-  unfolding allows
-  allows-here h e f = sym (r.same ∙ rw (pair-at p k h) (simp tests))
+-- the same of a list that is cut after its first two numbers
+pub good_more : (p : List ℕ) → 2 ≤ length p
+    → good_pairs p
+    ≡ (good_pair (get_or p 0 0) (get_or p 1 0) && (not (stands (take (length p - 2) (drop 2 p)) (get_or p 0 0)) && good_pairs (take (length p - 2) (drop 2 p))))
+unfolding good_pairs
+good_more [] h = absurd (omega arith)
+good_more (x ∷ []) h = absurd (omega arith)
+good_more (x ∷ n ∷ q) h = rw (take_all (suc (suc (length q)) - 2) q (omega arith))
 
-  pub allows-other : 1 < length p - k → (get_or p k 0 ≡ hash → ⊥) → Rest (λ q. allows q hash len) p (k + 2)
-  unfolding allows
-  allows-other h e = goes_on r h (rw (pair-at p k h) (simp tests))
-
-  pub allows-longer : 1 < length p - k → get_or p k 0 ≡ hash → (get_or p (k + 1) 0 ≡ len → ⊥) → Rest (λ q. allows q hash len) p (k + 2)
-  unfolding allows
-  allows-longer h e f = goes_on r h (rw (pair-at p k h) (simp tests))
-
-  pub allows-nowhere : length p - k ≤ 1 → false ≡ allows p hash len
-  allows-nowhere h = sym (r.same ∙ allows-none (drop k p) hash len (rw length-drop h))
-
--- ---- good pairs
-
-module _ (p : List ℕ) (k : ℕ) (r : Rest good_pairs p k) where
-  pub unfinished : k < length p → length p - k < 2 → false ≡ good_pairs p
-  unfolding good_pairs
-  unfinished h l =
-      let e : length p ≤ suc k = omega arith in
-      sym (r.same ∙ rw (drop-cons p k 0, drop_of_length-le p e))
-
-  pub none_left : length p ≤ k → true ≡ good_pairs p
-  unfolding good_pairs
-  none_left h = sym (r.same ∙ rw (drop_of_length-le p h))
-
-  module _ (h : 1 < length p - k) where
-    pub hash-wide : 4294967296 ≤ get_or p k 0 → false ≡ good_pairs p
-    unfolding good_pairs
-    hash-wide a = sym (r.same ∙ rw (pair-at p k h) (simp tests))
-
-    module _ (a : get_or p k 0 < 4294967296) where
-      pub too_short : get_or p (k + 1) 0 < 1 → false ≡ good_pairs p
-      unfolding good_pairs
-      too_short b = sym (r.same ∙ rw (pair-at p k h) (simp tests))
-
-      module _ (b : 1 ≤ get_or p (k + 1) 0) where
-        pub too_long : 1024 < get_or p (k + 1) 0 → false ≡ good_pairs p
-        unfolding good_pairs
-        too_long d = sym (r.same ∙ rw (pair-at p k h) (simp tests))
-
-        module _ (d : get_or p (k + 1) 0 ≤ 1024) where
-          -- seen is what a look at the pairs after k said of its hash id
-          module _ (seen : Bool) (looked : seen ≡ stands (take (length p - (k + 2)) (drop (k + 2) p)) (get_or p k 0)) where
-            later : seen ≡ stands (drop (k + 2) p) (get_or p k 0)
-            later = looked ∙ ap (λ (q : List ℕ). stands q (get_or p k 0)) (take_all (length p - (k + 2)) (drop (k + 2) p) (rw length-drop (le_refl _)))
-
-            pub twice : seen ≡ true → false ≡ good_pairs p
-            unfolding good_pairs
-            twice e = sym (r.same ∙ rw (pair-at p k h) (simp (tests, ← later, e)))
-
-            pub one-good : seen ≡ false → Rest good_pairs p (k + 2)
-            unfolding good_pairs
-            one-good e = goes_on r h (rw (pair-at p k h) (simp (tests, ← later, e)))
+-- and of fewer than two numbers
+pub good_last : (p : List ℕ) → length p < 2 → good_pairs p ≡ eqb (length p) 0
+unfolding good_pairs
+good_last [] h = refl
+good_last (x ∷ []) h = refl
+good_last (x ∷ n ∷ q) h = absurd (omega arith)
 
 -- ---- the whole table
 
@@ -130,10 +72,6 @@ empty-table p h = simp tests
 pub long-table : (p : List ℕ) → 1 ≤ length p → 32 < length p → false ≡ good_table p
 unfolding good_table
 long-table p h l = simp tests
-
-pub sized-table : (p : List ℕ) → 1 ≤ length p → length p ≤ 32 → good_pairs p ≡ good_table p
-unfolding good_table
-sized-table p h l = simp tests
 
 -- a hash id and a length that a good table allows fit their fields
 pairs_small : (pairs : List ℕ) (hash len : ℕ) → good_pairs pairs ≡ true → allows pairs hash len ≡ true → (hash < 4294967296) × (len ≤ 1024)
@@ -170,9 +108,6 @@ copied_more n p i h l =
 pub record Filling (p words : List ℕ) (i : ℕ) : Type 0 where
   pub within : i ≤ length p
   pub front : words ≡ take i p ++ replicate (32 - i) 0
-
-pub filling-none : (p : List ℕ) → Filling p (replicate 32 0) 0
-filling-none p = record { within = omega arith; front = refl }
 
 module _ (p words : List ℕ) (i : ℕ) (c : Filling p words i) where
   pub filling-more : (v : ℕ) → i < 32 → i < length p → v ≡ get_or p i 0 → Filling p (set words i v) (i + 1)

@@ -6,8 +6,7 @@
 -- Assumes nothing: these are definitions.
 use Rattle.std.specs.Prelude.{ℕ, ◌-◌, Bool, true, false, ◌&&◌, ◌||◌, not, List, [], ◌∷◌, ◌++◌, leb, ltb, eqb, length, replicate}
 use Rattle.answer.specs.declared.Rule.TheVariants.{Table}
-use Rattle.answer.specs.declared.Verdict.{Verdict}
-use Rattle.answer.specs.Rules.{must}
+use Rattle.answer.specs.Rules.{must, Verdict}
 use Rattle.answer.specs.Answers.{refusal}
 
 -- a hash id stands in a list of pairs

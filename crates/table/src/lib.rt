@@ -2,63 +2,53 @@
 // by value, an array of 32 numbers. Everyone asks it one question: does it allow this hash id with this length.
 #![tactic(auto)]
 
-ghost use Rattle.std.specs.Prelude.{◌≡◌, ◌≤◌, length};
-ghost use Rattle.table.specs.Table.{stands, good_pairs, good_table, allows, by_value};
+ghost use Rattle.std.specs.Prelude.{◌≡◌, ◌≤◌, ℕ, List, true, false, length, take};
+ghost use Rattle.std.specs.Option.{MatchOption};
+ghost use Rattle.table.specs.Table.{stands, good_pair, good_pairs, good_table, allows, by_value};
 
-// Whether a hash id stands in a list of pairs.
+use std::marker::Model;
+
+// Whether a hash id stands in a list of pairs. It asks less of a pair than `allows`: one function for both, lent a closure, would be no plainer.
+#[tactic(auto, using(std::proofs::lemmas::Bool::Decides::nat_tests, crate::proofs::Pairs::stands_pair, crate::proofs::Pairs::stands_none))]
 fn stands(pairs: &[u64], hash: u64) -> bool
     ensures { result ≡ stands pairs.now hash }
 {
-    let mut k = 0;
-    while 1 < pairs.len() - k {
-        if pairs[k] == hash {
+    for pair in pairs.chunks_exact(2) {
+        if pair[0] == hash {
             return true;
         }
-        k += 2;
     }
     false
 }
 
+// A hash id fits four bytes, and a digest is 1 to 1,024 bytes long.
+fn good_pair(hash: u64, len: u64) -> bool
+    ensures { result ≡ good_pair hash len }
+{
+    hash <= 0xFFFF_FFFF && (1..=1024).contains(&len)
+}
+
 // Whether a list is whole pairs, each good, with no hash id twice.
+#[tactic(auto, using(std::proofs::lemmas::Bool::Decides::nat_tests, crate::proofs::Pairs::good_more, crate::proofs::Pairs::good_last))]
 fn good_pairs(pairs: &[u64]) -> bool
     ensures { result ≡ good_pairs pairs.now }
 {
-    let mut k = 0;
-    while k < pairs.len() {
-        if pairs.len() - k < 2 {
+    let mut rest = pairs;
+    while let [hash, len, later @ ..] = rest {
+        if !good_pair(*hash, *len) || stands(later, *hash) {
             return false;
         }
-        let hash = pairs[k];
-        let n = pairs[k + 1];
-        if 4294967296 <= hash {
-            return false;
-        }
-        if n < 1 {
-            return false;
-        }
-        if 1024 < n {
-            return false;
-        }
-        let rest = k + 2;
-        if stands(&pairs[rest..], hash) {
-            return false;
-        }
-        k = rest;
+        rest = later;
     }
-    true
+    rest.is_empty()
 }
 
 // Whether a list is a table.
+#[tactic(auto, unfolding(crate::specs::Table::good_table))]
 pub fn good(pairs: &[u64]) -> bool
     ensures { result ≡ good_table pairs.now }
 {
-    if pairs.len() < 1 {
-        return false;
-    }
-    if 32 < pairs.len() {
-        return false;
-    }
-    good_pairs(pairs)
+    (1..=32).contains(&pairs.len()) && good_pairs(pairs)
 }
 
 // The table by value: a list copied to the front of an array, with zeros after it. An array has no length of its own, and the
@@ -68,26 +58,63 @@ pub fn copied(pairs: &[u64]) -> [u64; 32]
     ensures { result ≡ by_value pairs.now }
 {
     let mut numbers = [0u64; 32];
-    let mut i = 0;
-    while i < pairs.len() {
-        numbers[i] = pairs[i];
-        i += 1;
-    }
+    numbers[..pairs.len()].copy_from_slice(pairs);
     numbers
 }
 
 // Whether a list of pairs allows a hash id with a length.
+#[tactic(auto, using(std::proofs::lemmas::Bool::Decides::nat_tests, crate::proofs::Pairs::allows_pair, crate::proofs::Pairs::allows_none))]
 pub fn allows(pairs: &[u64], hash: u64, len: u64) -> bool
     ensures { result ≡ allows pairs.now hash len }
 {
-    let mut k = 0;
-    while 1 < pairs.len() - k {
-        if pairs[k] == hash {
-            if pairs[k + 1] == len {
-                return true;
-            }
+    for pair in pairs.chunks_exact(2) {
+        if pair[0] == hash && pair[1] == len {
+            return true;
         }
-        k += 2;
     }
     false
+}
+
+// The pairs of a list that is a table, by value. Contracts see it as the list.
+#[derive(Drop)]
+pub struct Table {
+    numbers: [u64; 32],
+    count: usize,
+}
+
+impl Model for Table {
+    ghost Value = { List ℕ };
+
+    ghost view = { λ t. take t.count t.numbers };
+
+    ghost invariant = { λ t. (t.count ≤ 32) × (good_table (take t.count t.numbers) ≡ true) };
+}
+
+impl Table {
+    // None of a list that is no table.
+    pub fn new(pairs: &[u64]) -> Option<Table>
+        ensures { MatchOption result (good_table pairs.now ≡ false) (λ t. (t ≡ pairs.now) × (good_table pairs.now ≡ true)) }
+    {
+        if !good(pairs) {
+            return None;
+        }
+        Some(Table {
+            numbers: copied(pairs),
+            count: pairs.len(),
+        })
+    }
+
+    pub fn pairs(&self) -> &[u64]
+        ensures same { result.now ≡ self.now }
+        ensures good { good_table self.now ≡ true }
+    {
+        &self.numbers[..self.count]
+    }
+
+    // Whether the table allows a hash id with a length.
+    pub fn allows(&self, hash: u64, len: u64) -> bool
+        ensures { result ≡ allows self.now hash len }
+    {
+        allows(self.pairs(), hash, len)
+    }
 }

@@ -4,29 +4,21 @@
 ghost use Rattle.std.specs.Prelude.{◌≡◌};
 ghost use Rattle.table_pairs.specs.Pairs.{length_answer, length_of};
 
-#[derive(Clone, Copy)]
+#[derive(Clone, Copy, Debug, PartialEq, Eq)]
 pub struct Pair {
     pub hash_id: u32,
     pub digest_length: u16,
 }
 
-#[derive(Clone, Copy)]
-pub enum Length {
-    Known(u16),
-    Unknown,
-}
-
-// The length of the first pair with a hash id.
-pub fn length_in(pairs: &[Pair], hash: u32) -> Length
+// The length of the first pair with a hash id, and None where no pair has it.
+#[tactic(auto, using(crate::proofs::Looking::here, crate::proofs::Looking::past), unfolding(crate::specs::Pairs::length_of))]
+pub fn length_in(pairs: &[Pair], hash: u32) -> Option<u16>
     ensures { length_answer result ≡ length_of pairs.now hash }
 {
-    let mut i = 0;
-    while i < pairs.len() {
-        let p = pairs[i];
-        if p.hash_id == hash {
-            return Length::Known(p.digest_length);
+    for pair in pairs {
+        if pair.hash_id == hash {
+            return Some(pair.digest_length);
         }
-        i += 1;
     }
-    Length::Unknown
+    None
 }

@@ -8,10 +8,9 @@ use mathlib.Core.List.{List}
 use native.Mathlib.Omega.{arith}
 use lib.Dec.{lit<}
 use lib.ListN.{length}
+use Rattle.std.specs.Prelude.{Some}
 use Rattle.numbers.specs.Numbers.{le, num_at, bytes_of}
-use Rattle.answer.specs.declared.Source.TheVariants.{Domain}
-use Rattle.answer.specs.declared.Verdict.TheVariants.{Accepted}
-use Rattle.answer.specs.Rules.{first_over, some_below}
+use Rattle.answer.specs.Rules.{first_over, some_below, accepted}
 use Rattle.segment.specs.Format.{v3, header_of, record_of, extent_of, record_at, record_no, extents_at, record_count}
 use Rattle.table.specs.Table.{stands, good_pairs, good_table, allows}
 use Rattle.segment.specs.Keys.{fresh_key}
@@ -89,8 +88,8 @@ use Rattle.theorem_cases.proofs.Sealed.{all_bytes, all-bytes, footed, up-to-head
 -- ---- rules that are kept, as the tables have them
 
 -- every rule up to 6, of a body with its footer
-sealed-kept : (pairs body : List ℕ) → good_table pairs ≡ true → size_verdict (length (sealed body)) ≡ Accepted
-    → head_verdict v3 (header_of (sealed body)) ≡ Accepted → layout_verdict v3 (header_of (sealed body)) (length (sealed body)) ≡ Accepted
+sealed-kept : (pairs body : List ℕ) → good_table pairs ≡ true → size_verdict (length (sealed body)) ≡ accepted
+    → head_verdict v3 (header_of (sealed body)) ≡ accepted → layout_verdict v3 (header_of (sealed body)) (length (sealed body)) ≡ accepted
     → all_bytes body ≡ true → UpToChecksum pairs (sealed body)
 unfolding sealed
 sealed-kept pairs body g size head layout b =
@@ -98,12 +97,12 @@ sealed-kept pairs body g size head layout b =
 
 module _ (pairs s : List ℕ) (u : UpToChecksum pairs s) where
   -- 7 to 10 of every record
-  records-kept : first_over (record_count (header_of s)) (record_verdict v3 pairs s (header_of s)) ≡ Accepted → UpToRecords pairs s
+  records-kept : first_over (record_count (header_of s)) (record_verdict v3 pairs s (header_of s)) ≡ accepted → UpToRecords pairs s
   records-kept e = record { before = u; each = (records-book v3 pairs s (header_of s) (record_count (header_of s))).0 e }
 
   -- those of the records before k, and 7 and 8 of k
-  digest-kept : (k : ℕ) → k < record_count (header_of s) → first_over k (record_verdict v3 pairs s (header_of s)) ≡ Accepted
-      → marks_verdict (header_of s) (record_in s k) 0 ≡ Accepted → digest_verdict pairs (header_of s) (record_in s k) 0 ≡ Accepted → UpToDigest pairs s k
+  digest-kept : (k : ℕ) → k < record_count (header_of s) → first_over k (record_verdict v3 pairs s (header_of s)) ≡ accepted
+      → marks_verdict (header_of s) (record_in s k) 0 ≡ accepted → digest_verdict pairs (header_of s) (record_in s k) 0 ≡ accepted → UpToDigest pairs s k
   digest-kept k w e m d = record {
     before = record { before = u; within = w; earlier = (records-book v3 pairs s (header_of s) k).0 e };
     marks = (marks-book (header_of s) (record_in s k) 0).0 m;
@@ -111,18 +110,18 @@ module _ (pairs s : List ℕ) (u : UpToChecksum pairs s) where
   }
 
 -- and 9
-extents-kept : (pairs s : List ℕ) (k : ℕ) → UpToDigest pairs s k → extents_verdict (header_of s) (record_in s k) 0 ≡ Accepted → UpToExtents pairs s k
+extents-kept : (pairs s : List ℕ) (k : ℕ) → UpToDigest pairs s k → extents_verdict (header_of s) (record_in s k) 0 ≡ accepted → UpToExtents pairs s k
 extents-kept pairs s k d e = record { before = d; extents = (extents-book (header_of s) (record_in s k) 0).0 e }
 
 -- 12
-keys_kept : (s : List ℕ) → first_over (record_count (header_of s)) (fresh_key (key_no v3 s (header_of s)) (record_at v3 (header_of s))) ≡ Accepted
+keys_kept : (s : List ℕ) → first_over (record_count (header_of s)) (fresh_key (key_no v3 s (header_of s)) (record_at v3 (header_of s))) ≡ accepted
     → KeysDiffer v3 s (header_of s)
 keys_kept s = (keys-book (key_no v3 s (header_of s)) (record_at v3 (header_of s)) (record_count (header_of s))).0
 
 -- where all are kept, all but one are
 module _ (pairs s : List ℕ) (u : UpToRecords pairs s) (k : ℕ) (w : k < record_count (header_of s)) where
-  all-kept : visibility_verdict v3 s (header_of s) ≡ Accepted
-      → first_over (record_count (header_of s)) (fresh_key (key_no v3 s (header_of s)) (record_at v3 (header_of s))) ≡ Accepted → AllBut10 pairs s k
+  all-kept : visibility_verdict v3 s (header_of s) ≡ accepted
+      → first_over (record_count (header_of s)) (fresh_key (key_no v3 s (header_of s)) (record_at v3 (header_of s))) ≡ accepted → AllBut10 pairs s k
   all-kept v d =
       let here = u.each k w in
       record {
@@ -171,7 +170,7 @@ members =
       one_less = refl;
       sections-one = record { bloom = refl; records = refl; digests = refl; listed = refl };
       one-row =
-          row-writable table (Domain 6) (extent_with 4294967295 1) refl (omega arith)
+          row-writable table (Some 6) (extent_with 4294967295 1) refl (omega arith)
           (record { block = omega arith; offset = omega arith; size = omega arith; inside = omega arith });
       sections-l = record { bloom = refl; records = refl; digests = refl; listed = refl };
       seven = refl;

@@ -12,11 +12,10 @@ use native.Mathlib.Omega.{arith}
 use lib.Dec.{lit<}
 use lib.ListN.{length, get_or, take, drop, length-drop}
 use lib.Seq.{length-take-le}
+use Rattle.std.specs.Prelude.{None, Ok}
 use Rattle.numbers.specs.Numbers.{le, num_at, bytes_of}
 use Rattle.answer.specs.declared.Refusal.{Refusal}
-use Rattle.answer.specs.declared.Source.{Source}
-use Rattle.answer.specs.declared.Source.TheVariants.{None}
-use Rattle.answer.specs.Answers.{refused, answered, source_values, found_answer}
+use Rattle.answer.specs.Answers.{refused, answered, source_values, found_answer, Source}
 use Rattle.segment.specs.declared.header.Heading.{Heading}
 use Rattle.segment.specs.declared.record.Record.{Record}
 use Rattle.segment.specs.declared.extent.Extent.{Extent}
@@ -255,7 +254,7 @@ source_told i d l z =
     (λ (e : i ≡ 0). rw (e, z e))
     (λ (n : ¬ (i ≡ 0)). let one : i ≡ 1 = omega arith in rw one)
 
-live-told : (r : Record) → r.flags ≡ 0 → r.imported ≤ 1 → (r.imported ≡ 0 → r.source ≡ 0) → found_answer (record_found r)
+live-told : (r : Record) → r.flags ≡ 0 → r.imported ≤ 1 → (r.imported ≡ 0 → r.source ≡ 0) → found_answer (Ok (record_found r))
     ≡ answered (r.visibility ∷ r.domain ∷ r.imported ∷ r.source ∷ r.total_length ∷ r.extents_offset.0 ∷ r.extent_count ∷ [])
 unfolding record_found
 live-told r live l z =
@@ -291,7 +290,7 @@ module _ (pairs s : List ℕ) (k : ℕ) (u : AllBut10 pairs s k) (f : EmptyAt s 
   unfolding key_no
   export-has = record { within = u.before.before.before.within; same = refl }
 
-  export-found : look_up_of pairs s (record_key s (record_in s k)) ≡ found_answer (record_found (record_in s k))
+  export-found : look_up_of pairs s (record_key s (record_in s k)) ≡ found_answer (Ok (record_found (record_in s k)))
   export-found =
       (look-up-finds pairs s (record_key s (record_in s k)) (with-total pairs s k u f.live export-sum) export-allowed).that-record k export-has
 

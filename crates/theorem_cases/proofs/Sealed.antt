@@ -11,11 +11,11 @@ use native.Mathlib.Omega.{arith}
 use borrow.Author.Tests.{ltb-true}
 use lib.Dec.{ltb, lit<}
 use lib.ListN.{length, length-append}
+use Rattle.answer.specs.Rules.{accepted}
 use Rattle.numbers.specs.Numbers.{bytes_of, Bytes}
 use Rattle.numbers.proofs.NumberLaws.{length-bytes_of}
 use Rattle.crc64.specs.Crc.{crc}
 use Rattle.lists.proofs.Tests.{and-iff}
-use Rattle.answer.specs.declared.Verdict.TheVariants.{Accepted}
 use Rattle.segment.specs.Format.{v3, header_of, footer_of}
 use Rattle.table.specs.Table.{good_table}
 use Rattle.segment.specs.Check.{size_verdict, head_verdict, layout_verdict}
@@ -58,13 +58,13 @@ module _ (body : List ℕ) (snapshot time : ℕ) where
   unfolding packed footer_fields
   footed b = sealed-here b
 
-module _ (pairs s : List ℕ) (g : good_table pairs ≡ true) (size : size_verdict (length s) ≡ Accepted) (head : head_verdict v3 (header_of s) ≡ Accepted) where
+module _ (pairs s : List ℕ) (g : good_table pairs ≡ true) (size : size_verdict (length s) ≡ accepted) (head : head_verdict v3 (header_of s) ≡ accepted) where
   pub up-to-header : UpToHeader pairs s
   up-to-header =
       let h = (head-book v3 (header_of s)).0 head in
       record { before = record { table = g; size = (size-book s).0 size }; magic = h.0; version = h.1; header = h.2 }
 
-  pub up-to-checksum : layout_verdict v3 (header_of s) (length s) ≡ Accepted → ChecksumMeets s → UpToChecksum pairs s
+  pub up-to-checksum : layout_verdict v3 (header_of s) (length s) ≡ accepted → ChecksumMeets s → UpToChecksum pairs s
   up-to-checksum layout checksum = record {
     before = record { before = up-to-header; layout = (layout-book v3 v3-shaped s (header_of s)).0 layout };
     checksum = checksum;

@@ -4,9 +4,8 @@
 --   among      that of one with bloom bytes, and a record between two others
 --   Members    each description has a member
 -- Assumes nothing: these are definitions.
-use Rattle.std.specs.Prelude.{ℕ, ◌<◌, ◌≡◌, true, List, [], ◌∷◌, ◌++◌, length, replicate}
+use Rattle.std.specs.Prelude.{ℕ, ◌<◌, ◌≡◌, true, List, [], ◌∷◌, ◌++◌, length, replicate, None, Some}
 use Rattle.crc64.specs.Crc.{crc}
-use Rattle.answer.specs.declared.Source.TheVariants.{None, Domain}
 use Rattle.segment.specs.declared.header.Heading.{Heading}
 use Rattle.segment.specs.declared.record.Record.{Record}
 use Rattle.segment.specs.declared.extent.Extent.{Extent}
@@ -81,7 +80,7 @@ first_row = record { key = key_from 1 (2 ∷ 3 ∷ []); visibility = 0; source =
 
 -- hash 7, digest 03040506, published, imported from domain 6
 abbrev pub middle_row : State → Row
-middle_row state = record { key = key_from 7 (3 ∷ 4 ∷ 5 ∷ 6 ∷ []); visibility = 1; source = Domain 6; state = state }
+middle_row state = record { key = key_from 7 (3 ∷ 4 ∷ 5 ∷ 6 ∷ []); visibility = 1; source = Some 6; state = state }
 
 -- hash 7, digest 05060708, internal, with one extent
 abbrev pub last_row : Row
@@ -116,7 +115,7 @@ wrapped = packed (header_fields (header_over v3 heading 18446744073709551504 0 0
 
 -- hash 7, digest 0a0b0c0d, published, imported from domain 6, with the last byte of a block
 abbrev pub member_row : Row
-member_row = row_with 7 0x0a 0x0b 0x0c 0x0d 1 (Domain 6) (extent_with 4294967295 1)
+member_row = row_with 7 0x0a 0x0b 0x0c 0x0d 1 (Some 6) (extent_with 4294967295 1)
 
 -- ---- the members, in the order of the cases
 

@@ -6,10 +6,8 @@
 --   Lies        where a file's sections lie
 --   p_cases      the ten cases
 -- Assumes nothing: these are definitions.
-use Rattle.std.specs.Prelude.{ℕ, ◌+◌, ◌*◌, ◌≤◌, ◌<◌, ◌≡◌, true, ◌↔◌, List, [], ◌∷◌, length, take, drop}
-use Rattle.answer.specs.declared.Source.{Source}
-use Rattle.answer.specs.declared.Source.TheVariants.{None}
-use Rattle.answer.specs.Answers.{Answer, answered}
+use Rattle.std.specs.Prelude.{ℕ, ◌+◌, ◌*◌, ◌≤◌, ◌<◌, ◌≡◌, true, ◌↔◌, List, [], ◌∷◌, length, take, drop, None}
+use Rattle.answer.specs.Answers.{Answer, answered, Source}
 use Rattle.segment.specs.Keys.{Key, key_from, allows_key}
 use Rattle.segment.specs.declared.header.Heading.{Heading}
 use Rattle.segment.specs.declared.record.Record.{Record}

@@ -8,10 +8,9 @@ use mathlib.Core.Logic.{◌↔◌, by_cases}
 use mathlib.Core.List.{List}
 use lib.ListN.{length}
 use native.Mathlib.Decide.{ℕ_discrete}
+use Rattle.std.specs.Prelude.{Err, Ok}
 use Rattle.answer.specs.declared.Refusal.{Refusal}
-use Rattle.answer.specs.declared.Verdict.{Verdict}
-use Rattle.answer.specs.declared.Verdict.TheVariants.{Accepted, Refused}
-use Rattle.answer.specs.Rules.{first_over}
+use Rattle.answer.specs.Rules.{first_over, Verdict, accepted}
 use Rattle.answer.specs.Answers.{refused, check_answer}
 use Rattle.answer.proofs.Order.{never_both, Lowest, by-run}
 use Rattle.answer.proofs.Settled.{check-settled}
@@ -73,7 +72,7 @@ use Rattle.theorem_demands.proofs.Stops.{at-keys, given-refused}
 
 -- where the walk comes to
 data Judged (pairs s : List ℕ) : Type 0 where
-  accepts : checked pairs s ≡ Accepted → Judged pairs s
+  accepts : checked pairs s ≡ accepted → Judged pairs s
   gives : (r : Refusal) → Given pairs s r → Judged pairs s
 
 -- ---- the walk, from its last step to its first
@@ -83,8 +82,8 @@ module _ (pairs s : List ℕ) where
   from-keys u = go (first_over (record_count (header_of s)) (fresh_key (key_no v3 s (header_of s)) (record_at v3 (header_of s)))) refl
     where
       go : (v : Verdict) → first_over (record_count (header_of s)) (fresh_key (key_no v3 s (header_of s)) (record_at v3 (header_of s))) ≡ v → Judged pairs s
-      go Accepted e = accepts (at-keys pairs s u ∙ e)
-      go (Refused r) e =
+      go (Ok _) e = accepts (at-keys pairs s u ∙ e)
+      go (Err r) e =
           let d = refused-twice (key_no v3 s (header_of s)) (record_at v3 (header_of s)) (record_count (header_of s)) r e in
           gives _ (by-duplicate d.0 u d.2)
 
@@ -173,17 +172,17 @@ module _ (pairs s : List ℕ) where
 
   -- ---- the theorem
 
-  settled : (r : Refusal) → checked pairs s ≡ Refused r → Judged pairs s → Given pairs s r
+  settled : (r : Refusal) → checked pairs s ≡ Err r → Judged pairs s → Given pairs s r
   settled r e (accepts a) = absurd (never_both a e)
   settled r e (gives q g) =
       let f = given-refused pairs s q g in
       let same : q ≡ r = cc in
       rw same at g
 
-pub refused-iff : (pairs s : List ℕ) (r : Refusal) → (checked pairs s ≡ Refused r) ↔ Given pairs s r
+pub refused-iff : (pairs s : List ℕ) (r : Refusal) → (checked pairs s ≡ Err r) ↔ Given pairs s r
 refused-iff pairs s r = (λ e. settled pairs s r e (judged pairs s), given-refused pairs s r)
 
 -- in numbers
 pub refused-numbers : (pairs s : List ℕ) (r : Refusal) → (check_of pairs s ≡ refused r) ↔ Given pairs s r
 unfolding check_of
-refused-numbers pairs s = in-numbers check_answer Refused check-settled (λ r. refl) (checked pairs s) (refused-iff pairs s)
+refused-numbers pairs s = in-numbers check_answer Err check-settled (λ r. refl) (checked pairs s) (refused-iff pairs s)

@@ -9,12 +9,11 @@ use native.Mathlib.Omega.{arith}
 use borrow.Author.Tests.{le-leb, lt-leb, eq-eqb, ne_eqb}
 use lib.Dec.{leb, eqb}
 use lib.ListN.{length}
+use Rattle.std.specs.Prelude.{Err}
 use Rattle.answer.specs.declared.Refusal.{Refusal}
 use Rattle.answer.specs.declared.Rule.TheVariants.{LayoutBloom, Record as RecordWrong, Digest, Extents, Total, Table, List as ListEnd, Large}
 use Rattle.answer.specs.Answers.{refusal}
-use Rattle.answer.specs.declared.Verdict.{Verdict}
-use Rattle.answer.specs.declared.Verdict.TheVariants.{Accepted, Refused}
-use Rattle.answer.specs.Rules.{must, ◌then◌, first_over}
+use Rattle.answer.specs.Rules.{must, ◌then◌, first_over, Verdict, accepted}
 use Rattle.lists.proofs.Tests.{by-test}
 use Rattle.answer.proofs.Order.{rows, then-accepted, then-refused, first-refused, Lowest, first-is-lowest}
 use Rattle.segment.specs.declared.entry.Entry.{Entry}
@@ -83,7 +82,7 @@ module _ (pairs digests extents : List ℕ) (e : Entry) (k : ℕ) where
   unfolding entry_total
   total-only = search only-rows
 
-  entry-refuses : (r : Refusal) → entry_rules v3 pairs digests extents e k ≡ Refused r → EntryGiven pairs digests extents e k r
+  entry-refuses : (r : Refusal) → entry_rules v3 pairs digests extents e k ≡ Err r → EntryGiven pairs digests extents e k r
   unfolding entry_rules
   entry-refuses r f =
       by_first marks-only (marks-book e k) f (λ s n. rw (← s) (by-marks n))
@@ -95,7 +94,7 @@ module _ (pairs digests extents : List ℕ) (e : Entry) (k : ℕ) where
       by_first places-only (places-book e k) f (λ s n. rw (← s) (by-places m l d n))
       (λ p f. let t = (only-refused total-only (total-book v3 (entry_extents extents e) k) r).0 f in rw (← t.0) (by_total m l d p t.1)))))
 
-  entry-given : (r : Refusal) → EntryGiven pairs digests extents e k r → entry_rules v3 pairs digests extents e k ≡ Refused r
+  entry-given : (r : Refusal) → EntryGiven pairs digests extents e k r → entry_rules v3 pairs digests extents e k ≡ Err r
   unfolding entry_rules
   entry-given r (by-marks n) = rw (broken marks-only (marks-book e k) n)
   entry-given r (by-lists m n) = rw ((marks-book e k).1 m, broken lists-only (lists-book digests extents e k) n)
@@ -118,7 +117,7 @@ module _ (pairs : List ℕ) (q : Request) where
   abbrev key : ℕ → List ℕ
   key = entry_key q.entries q.digests
 
-  pub request-accepted : request_verdict v3 pairs q ≡ Accepted ↔ Asks pairs q
+  pub request-accepted : request_verdict v3 pairs q ≡ accepted ↔ Asks pairs q
   unfolding request_verdict
   request-accepted =
       simp (then-accepted, table-book, request-book)
@@ -132,23 +131,23 @@ module _ (pairs : List ℕ) (q : Request) where
       (record { before = u; within = l.within; earlier = λ j i. (asked (entry_no q.entries j) j).0 (l.before j i) })
       (entry-refuses pairs q.digests q.extents (entry_no q.entries l.at) l.at r l.here)
 
-  from-keys : UpToEntries pairs q → (r : Refusal) → first_over count (fresh_key key entry_place) ≡ Refused r → RequestGiven pairs q r
+  from-keys : UpToEntries pairs q → (r : Refusal) → first_over count (fresh_key key entry_place) ≡ Err r → RequestGiven pairs q r
   from-keys u r f = let d = refused-twice key entry_place count r f in rw (← d.1) (by_key d.0 u d.2)
 
-  from_entries : UpToBloom pairs q → (r : Refusal) → (first_over count each then first_over count (fresh_key key entry_place)) ≡ Refused r → RequestGiven pairs q r
+  from_entries : UpToBloom pairs q → (r : Refusal) → (first_over count each then first_over count (fresh_key key entry_place)) ≡ Err r → RequestGiven pairs q r
   from_entries u r f =
       ⊎_elim
       (λ g. first_entry u r ((first-is-lowest count each r).0 g))
       (λ g. from-keys (record { before = u; each = (entries-book v3 pairs q.entries q.digests q.extents count).0 g.0 }) r g.1)
       ((then-refused (first_over count each) (first_over count (fresh_key key entry_place)) r).0 f)
 
-  few-book : must (leb count record_limit) (refusal Large 0) ≡ Accepted ↔ count ≤ record_limit
+  few-book : must (leb count record_limit) (refusal Large 0) ≡ accepted ↔ count ≤ record_limit
   few-book = simp rows Iff.rfl
 
-  bloom-book : must (eqb (length q.bloom % 8) 0) (refusal LayoutBloom 0) ≡ Accepted ↔ length q.bloom % 8 ≡ 0
+  bloom-book : must (eqb (length q.bloom % 8) 0) (refusal LayoutBloom 0) ≡ accepted ↔ length q.bloom % 8 ≡ 0
   bloom-book = simp rows Iff.rfl
 
-  request-refuses : (r : Refusal) → request_verdict v3 pairs q ≡ Refused r → RequestGiven pairs q r
+  request-refuses : (r : Refusal) → request_verdict v3 pairs q ≡ Err r → RequestGiven pairs q r
   unfolding request_verdict request_rules table_verdict
   request-refuses r f =
       by_first (only-must (good_table pairs) (refusal Table 0)) (table-book pairs) f (λ s n. rw (← s) (by-table (by-test (good_table pairs) (λ g. absurd (n g)) (λ g. g))))
@@ -162,7 +161,7 @@ module _ (pairs : List ℕ) (q : Request) where
   unfolding request_verdict request_rules table_verdict
   at-entries u = rw (u.table, le-leb _ _ u.few, eq-eqb _ _ u.bloom)
 
-  request-given : (r : Refusal) → RequestGiven pairs q r → request_verdict v3 pairs q ≡ Refused r
+  request-given : (r : Refusal) → RequestGiven pairs q r → request_verdict v3 pairs q ≡ Err r
   unfolding request_verdict request_rules table_verdict entry_verdict
   request-given r (by-table g) = rw g
   request-given r (by_count g l) = rw (g, lt-leb _ _ l)
@@ -175,5 +174,5 @@ module _ (pairs : List ℕ) (q : Request) where
       let all = (entries-book v3 pairs q.entries q.digests q.extents count).1 u.each in
       at-entries u.before ∙ rw (all, twice-refused key entry_place count k m)
 
-  pub request-refused-iff : (r : Refusal) → request_verdict v3 pairs q ≡ Refused r ↔ RequestGiven pairs q r
+  pub request-refused-iff : (r : Refusal) → request_verdict v3 pairs q ≡ Err r ↔ RequestGiven pairs q r
   request-refused-iff r = (request-refuses r, request-given r)

@@ -7,8 +7,8 @@ use mathlib.Core.Bool.{true}
 use mathlib.Core.Logic.Iff
 use mathlib.Core.Logic.{◌↔◌}
 use mathlib.Core.List.{List}
-use Rattle.answer.specs.declared.Verdict.{Verdict}
-use Rattle.answer.specs.declared.Verdict.TheVariants.{Accepted}
+use Rattle.std.specs.Prelude.{Ok}
+use Rattle.answer.specs.Rules.{Verdict}
 use Rattle.answer.specs.Answers.{check_answer}
 use Rattle.answer.proofs.Order.{then-accepted}
 use Rattle.answer.proofs.Settled.{check-settled}
@@ -27,9 +27,9 @@ unfolding check_of
 answer-is pairs s v = (check-settled (checked pairs s) v, ap check_answer)
 
 pub accepted-iff : (pairs s : List ℕ) → good_table pairs ≡ true → (check_of pairs s ≡ accepted) ↔ Meets v3 pairs s
-accepted-iff pairs s g = simp (answer-is pairs s Accepted, checked-iff pairs s g) Iff.rfl
+accepted-iff pairs s g = simp (answer-is pairs s (Ok _), checked-iff pairs s g) Iff.rfl
 
 -- and with the table's own rule: under one that is not good, check accepts nothing
 pub accepts-iff : (pairs s : List ℕ) → (check_of pairs s ≡ accepted) ↔ (good_table pairs ≡ true) × Meets v3 pairs s
 unfolding checked
-accepts-iff pairs s = simp (answer-is pairs s Accepted, then-accepted, table-book, segment-book v3 v3-shaped) Iff.rfl
+accepts-iff pairs s = simp (answer-is pairs s (Ok _), then-accepted, table-book, segment-book v3 v3-shaped) Iff.rfl

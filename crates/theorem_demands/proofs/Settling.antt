@@ -10,14 +10,11 @@ use borrow.Author.Tests.{leb-true, leb-false, le-leb, lt-leb}
 use lib.Dec.{leb}
 use lib.ListN.{length, take, drop}
 use lib.Seq.{take_at}
+use Rattle.std.specs.Prelude.{Err, Ok}
 use Rattle.answer.specs.declared.Refusal.{Refusal}
 use Rattle.answer.specs.declared.Rule.TheVariants.{Room, Large}
-use Rattle.answer.specs.declared.Verdict.{Verdict}
-use Rattle.answer.specs.declared.Verdict.TheVariants.{Accepted, Refused as Stopped}
-use Rattle.answer.specs.declared.Written.{Written}
-use Rattle.answer.specs.declared.Written.TheVariants.{Done, Refused}
-use Rattle.answer.specs.Answers.{refusal, refused, written_answer}
-use Rattle.answer.specs.Rules.{must, ◌then◌, after}
+use Rattle.answer.specs.Answers.{refusal, refused, written_answer, Written}
+use Rattle.answer.specs.Rules.{must, ◌then◌, Verdict, accepted}
 use Rattle.answer.proofs.Order.{must-accepted, rows, then-refused}
 use Rattle.answer.proofs.Settled.{written-settled}
 use Rattle.segment.specs.Format.{file_limit}
@@ -25,19 +22,20 @@ use Rattle.segment.specs.Tidy.{room_verdict, output_after, Outcome, outcome, set
 use Rattle.theorem_demands.specs.Tidying.{Wrote, SizeGiven, by-limit, by-room}
 use Rattle.theorem_demands.proofs.InNumbers.{in-numbers}
 
-after-done : (v : Verdict) (n m : ℕ) → after Refused v (Done n) ≡ Done m ↔ (v ≡ Accepted) × (n ≡ m)
-after-done Accepted n m = (λ e. (refl, cc), λ e. ap Done e.1)
-after-done (Stopped r) n m = (λ e. (cc, cc), λ e. cc)
+-- a value behind a verdict: it is answered where the verdict accepts, and refused as the verdict refuses
+pub then-answers : {A : Type 0} (v : Verdict) (x y : A) → (v then Ok x) ≡ Ok y ↔ (v ≡ accepted) × (x ≡ y)
+then-answers (Ok _) x y = (λ e. (refl, cc), λ e. ap Ok e.1)
+then-answers (Err r) x y = (λ e. (cc, cc), λ e. cc)
 
-after-refused : (v : Verdict) (n : ℕ) (r : Refusal) → after Refused v (Done n) ≡ Refused r ↔ v ≡ Stopped r
-after-refused Accepted n r = (λ e. cc, λ e. cc)
-after-refused (Stopped q) n r = (λ e. cc, λ e. cc)
+pub then-refuses : {A : Type 0} (v : Verdict) (x : A) (r : Refusal) → (v then Ok x) ≡ Err r ↔ v ≡ Err r
+then-refuses (Ok _) x r = (λ e. cc, λ e. cc)
+then-refuses (Err q) x r = (λ e. cc, λ e. cc)
 
-must-refused : (b : Bool) (q r : Refusal) → must b q ≡ Stopped r ↔ (b ≡ false) × (q ≡ r)
+must-refused : (b : Bool) (q r : Refusal) → must b q ≡ Err r ↔ (b ≡ false) × (q ≡ r)
 must-refused true q r = (λ e. (cc, cc), λ e. cc)
-must-refused false q r = (λ e. (refl, cc), λ e. ap Stopped e.1)
+must-refused false q r = (λ e. (refl, cc), λ e. ap Err e.1)
 
-room-refused : (n room : ℕ) (r : Refusal) → room_verdict n room ≡ Stopped r ↔ SizeGiven n room r
+room-refused : (n room : ℕ) (r : Refusal) → room_verdict n room ≡ Err r ↔ SizeGiven n room r
 unfolding room_verdict
 room-refused n room r = (
   λ e. ⊎_elim
@@ -48,26 +46,26 @@ room-refused n room r = (
   given r,
 )
   where
-    given : (q : Refusal) → SizeGiven n room q → (must (leb n file_limit) (refusal Large 0) then must (leb n room) (refusal Room 0)) ≡ Stopped q
+    given : (q : Refusal) → SizeGiven n room q → (must (leb n file_limit) (refusal Large 0) then must (leb n room) (refusal Room 0)) ≡ Err q
     given q (by-limit l) = rw (lt-leb n file_limit l)
     given q (by-room l h) = rw (le-leb n file_limit l, lt-leb n room h)
 
 -- nothing before the result is refused, it is within the limit, and an output has room for it
 abbrev pub Passes : Verdict → List ℕ → ℕ → Type 0
-Passes v result room = (v ≡ Accepted) × ((length result ≤ file_limit) × (length result ≤ room))
+Passes v result room = (v ≡ accepted) × ((length result ≤ file_limit) × (length result ≤ room))
 
 module _ (v : Verdict) (result : List ℕ) where
-  settled-done : (room n : ℕ) → settled v result room ≡ Done n ↔ Passes v result room × (length result ≡ n)
+  pub settled-done : (room n : ℕ) → settled v result room ≡ Ok n ↔ Passes v result room × (length result ≡ n)
   unfolding settled room_verdict
-  settled-done room n = simp (after-done, rows) Iff.rfl
+  settled-done room n = simp (then-answers, rows) Iff.rfl
 
   -- the refusals of what comes before, then 16, 13
-  pub settled-refused : {A : Type 0} {G : Refusal → Type 0} → v ≡ Accepted ↔ A → ((r : Refusal) → v ≡ Stopped r ↔ G r) → (room : ℕ) (r : Refusal)
-      → settled v result room ≡ Refused r ↔ G r ⊎ (A × SizeGiven (length result) room r)
+  pub settled-refused : {A : Type 0} {G : Refusal → Type 0} → v ≡ accepted ↔ A → ((r : Refusal) → v ≡ Err r ↔ G r) → (room : ℕ) (r : Refusal)
+      → settled v result room ≡ Err r ↔ G r ⊎ (A × SizeGiven (length result) room r)
   unfolding settled
   settled-refused a g room r =
       let size = room-refused (length result) room r in
-      simp (after-refused, then-refused)
+      simp (then-refuses, then-refused)
       (⊎_map (g r).0 (λ p. (a.0 p.0, size.0 p.1)), ⊎_map (g r).1 (λ p. (a.1 p.0, size.1 p.1)))
 
   -- what is answered and left
@@ -77,7 +75,7 @@ module _ (v : Verdict) (result : List ℕ) where
 
     to-result : (r : List ℕ) → Wrote left out r → Passes v result (length out) × (r ≡ result)
     to-result r w =
-        let done : settled v result (length out) ≡ Done (length r) = written-settled (settled v result (length out)) (Done (length r)) w.answer in
+        let done : settled v result (length out) ≡ Ok (length r) = written-settled (settled v result (length out)) (Ok (length r)) w.answer in
         let d = (settled-done (length out) (length r)).0 done in
         let both : r ++ drop (length r) out ≡ result ++ drop (length r) out = sym w.output ∙ rw done in
         (d.0, sym (take_at r _ (length r) refl) ∙ ap (take (length r)) both ∙ take_at result _ (length r) d.1)
@@ -89,12 +87,12 @@ module _ (v : Verdict) (result : List ℕ) where
     pub wrote-iff : (r : List ℕ) → Wrote left out r ↔ Passes v result (length out) × (r ≡ result)
     wrote-iff r = (to-result r, λ d. rw d.1 (from-result d.0))
 
-    pub refused-keeps : (r : Refusal) → settled v result (length out) ≡ Refused r → left.output ≡ out
+    pub refused-keeps : (r : Refusal) → settled v result (length out) ≡ Err r → left.output ≡ out
     refused-keeps r e = rw e
 
 -- a refusal, in numbers
-pub written-numbers : (w : Written) {G : Refusal → Type 0} → ((r : Refusal) → w ≡ Refused r ↔ G r) → (r : Refusal) → written_answer w ≡ refused r ↔ G r
-written-numbers = in-numbers written_answer Refused written-settled (λ r. refl)
+pub written-numbers : (w : Written) {G : Refusal → Type 0} → ((r : Refusal) → w ≡ Err r ↔ G r) → (r : Refusal) → written_answer w ≡ refused r ↔ G r
+written-numbers = in-numbers written_answer Err written-settled (λ r. refl)
 
 -- two answers that one promise allows are equal, and so is what they leave
 pub one-outcome : (o : Outcome) (v w : Written) (x y : List ℕ) → outcome v x ≡ o → outcome w y ≡ o → (v ≡ w) × (x ≡ y)

@@ -4,9 +4,9 @@ use Prim.Native.Nat.{ℕ}
 use mathlib.Core.Path.{◌≡◌, ◌∙◌}
 use mathlib.Core.List.{List}
 use lib.ListN.{length}
+use Rattle.std.specs.Prelude.{Err}
 use Rattle.answer.specs.declared.Refusal.{Refusal}
-use Rattle.answer.specs.declared.Verdict.TheVariants.{Accepted, Refused}
-use Rattle.answer.specs.Rules.{◌then◌, first_over}
+use Rattle.answer.specs.Rules.{◌then◌, first_over, accepted}
 use Rattle.answer.proofs.Order.{first-refused}
 use Rattle.segment.proofs.Shapes.{v3-shaped}
 use Rattle.segment.specs.Format.{v3, header_of, record_count, record_at}
@@ -81,10 +81,10 @@ module _ (pairs s : List ℕ) where
   unfolding segment_verdict
   at-header u = under_table pairs s u.table ∙ rw ((size-book s).1 u.size)
 
-  head-kept : UpToHeader pairs s → head_verdict v3 (header_of s) ≡ Accepted
+  head-kept : UpToHeader pairs s → head_verdict v3 (header_of s) ≡ accepted
   head-kept u = (head-book v3 (header_of s)).1 (u.magic, u.version, u.header)
 
-  layout-kept : UpToLayout pairs s → layout_verdict v3 (header_of s) (length s) ≡ Accepted
+  layout-kept : UpToLayout pairs s → layout_verdict v3 (header_of s) (length s) ≡ accepted
   layout-kept u = (layout-book v3 v3-shaped s (header_of s)).1 u.layout
 
   at_records : UpToChecksum pairs s
@@ -96,7 +96,7 @@ module _ (pairs s : List ℕ) where
   at_records u =
       at-header u.before.before.before ∙ rw (head-kept u.before.before, layout-kept u.before, (checksum-book s).1 u.checksum)
 
-  records-kept : UpToRecords pairs s → first_over (record_count (header_of s)) (record_verdict v3 pairs s (header_of s)) ≡ Accepted
+  records-kept : UpToRecords pairs s → first_over (record_count (header_of s)) (record_verdict v3 pairs s (header_of s)) ≡ accepted
   records-kept u = (records-book v3 pairs s (header_of s) (record_count (header_of s))).1 u.each
 
   pub at-keys : UpToVisibility pairs s → checked pairs s ≡ first_over (record_count (header_of s)) (fresh_key (key_no v3 s (header_of s)) (record_at v3 (header_of s)))
@@ -105,31 +105,31 @@ module _ (pairs s : List ℕ) where
   -- ---- where it stops
 
   module _ {r : Refusal} where
-    head-stops : UpToSize pairs s → head_verdict v3 (header_of s) ≡ Refused r → checked pairs s ≡ Refused r
+    head-stops : UpToSize pairs s → head_verdict v3 (header_of s) ≡ Err r → checked pairs s ≡ Err r
     unfolding segment_rules
     head-stops u e = at-header u ∙ rw e
 
-    layout-stops : UpToHeader pairs s → layout_verdict v3 (header_of s) (length s) ≡ Refused r → checked pairs s ≡ Refused r
+    layout-stops : UpToHeader pairs s → layout_verdict v3 (header_of s) (length s) ≡ Err r → checked pairs s ≡ Err r
     unfolding segment_rules
     layout-stops u e = at-header u.before ∙ rw (head-kept u, e)
 
-    checksum-stops : UpToLayout pairs s → checksum_verdict s ≡ Refused r → checked pairs s ≡ Refused r
+    checksum-stops : UpToLayout pairs s → checksum_verdict s ≡ Err r → checked pairs s ≡ Err r
     unfolding segment_rules
     checksum-stops u e = at-header u.before.before ∙ rw (head-kept u.before, layout-kept u, e)
 
-    record-stops : (k : ℕ) → Reached pairs s k → record_rules v3 pairs s (header_of s) (record_in s k) (place_in s k) ≡ Refused r → checked pairs s ≡ Refused r
+    record-stops : (k : ℕ) → Reached pairs s k → record_rules v3 pairs s (header_of s) (record_in s k) (place_in s k) ≡ Err r → checked pairs s ≡ Err r
     unfolding record_verdict
     record-stops k u e =
         let earlier = (records-book v3 pairs s (header_of s) k).1 u.earlier in
         let run = first-refused (record_count (header_of s)) k (record_verdict v3 pairs s (header_of s)) r u.within earlier e in
         at_records u.before ∙ rw run
 
-    visibility-stops : UpToRecords pairs s → visibility_verdict v3 s (header_of s) ≡ Refused r → checked pairs s ≡ Refused r
+    visibility-stops : UpToRecords pairs s → visibility_verdict v3 s (header_of s) ≡ Err r → checked pairs s ≡ Err r
     visibility-stops u e = at_records u.before ∙ rw (records-kept u, e)
 
   -- ---- each refusal
 
-  pub given-refused : (r : Refusal) → Given pairs s r → checked pairs s ≡ Refused r
+  pub given-refused : (r : Refusal) → Given pairs s r → checked pairs s ≡ Err r
   unfolding checked segment_verdict
   given-refused r (by-table e) = rw (table-broken pairs e)
   given-refused r (by_size g n) = under_table pairs s g ∙ rw (size-broken s n)

@@ -3,29 +3,23 @@
 -- Assumes nothing.
 use Prim.Native.Nat.{ℕ, ◌≤◌}
 use mathlib.Core.Path.{◌≡◌, refl, sym, ◌∙◌}
-use mathlib.Core.Bool.{Bool, true, false}
+use mathlib.Core.Bool.{true}
 use mathlib.Core.Logic.Iff
-use mathlib.Core.Logic.{◌↔◌}
+use mathlib.Core.Logic.{◌↔◌, inl, ⊎_map}
 use mathlib.Core.List.{List}
 use native.Mathlib.Omega.{arith}
-use borrow.Author.Tests.{le-leb}
-use lib.Dec.{leb}
 use lib.ListN.{length}
+use Rattle.std.specs.Prelude.{Err, Ok}
 use Rattle.numbers.specs.Numbers.{Bytes}
 use Rattle.answer.specs.declared.Refusal.{Refusal}
-use Rattle.answer.specs.declared.Rule.TheVariants.{Large, Room}
-use Rattle.answer.specs.declared.Verdict.{Verdict}
-use Rattle.answer.specs.declared.Verdict.TheVariants.{Accepted, Refused as Stopped}
-use Rattle.answer.specs.declared.Written.{Written}
-use Rattle.answer.specs.declared.Written.TheVariants.{Done, Refused}
-use Rattle.answer.specs.Rules.{must, ◌then◌, after}
-use Rattle.answer.specs.Answers.{refusal, refused, written_answer}
+use Rattle.answer.specs.Answers.{refused, written_answer, Written}
+use Rattle.answer.proofs.Order.{rows, then-refused}
 use Rattle.answer.proofs.Settled.{written-settled}
 use Rattle.segment.specs.Format.{v3, file_limit}
 use Rattle.table.specs.Table.{good_table}
 use Rattle.segment.specs.Check.{checked, check_of}
 use Rattle.segment.specs.Meaning.{Meaning, meaning_of, SameMeaning}
-use Rattle.segment.specs.Tidy.{tidy_form, room_verdict, settled, outcome, tidied, tidy_of, tidy_sized, tidy_length_of}
+use Rattle.segment.specs.Tidy.{tidy_form, limit_verdict, room_verdict, settled, outcome, tidied, tidy_of, tidy_sized, tidy_length_of}
 use Rattle.form_laws.specs.Form.{Tidies}
 use Rattle.segment.proofs.Shapes.{v3-shaped}
 use Rattle.form_laws.proofs.SortedForm.{tidy-bytes}
@@ -35,7 +29,7 @@ use Rattle.theorem_demands.specs.Answered.{accepted}
 use Rattle.theorem_demands.specs.Tidying.{Wrote, tidy_bytes, Tidiable, TidyGiven, Keeps, SameForm}
 use Rattle.theorem_demands.proofs.Rulebook.{answer-is, accepts-iff}
 use Rattle.theorem_demands.proofs.Refusals.{refused-iff}
-use Rattle.theorem_demands.proofs.Settling.{settled-refused, wrote-iff, refused-keeps, written-numbers, one-outcome}
+use Rattle.theorem_demands.proofs.Settling.{then-answers, then-refuses, settled-done, settled-refused, wrote-iff, refused-keeps, written-numbers, one-outcome}
 
 -- ---- when tidy writes, and what
 
@@ -44,23 +38,23 @@ module _ (pairs s : List ℕ) where
   pub tidied-iff : (out r : List ℕ) → Wrote (tidy_of pairs s out) out r ↔ Tidiable pairs s (length out) × (r ≡ tidy_bytes s)
   unfolding tidy_of tidied
   tidied-iff out r =
-      simp (wrote-iff (checked pairs s) (tidy_bytes s) out r, ← answer-is pairs s Accepted) (
+      simp (wrote-iff (checked pairs s) (tidy_bytes s) out r, ← answer-is pairs s (Ok _)) (
         λ d. (record { accepts = d.0.0; small = d.0.1.0; fits = d.0.1.1 }, d.1),
         λ d. ((d.0.accepts, (d.0.small, d.0.fits)), d.1),
       )
 
   -- ---- when it refuses, and what stays
 
-  pub tidy-refused-iff : (room : ℕ) (r : Refusal) → tidied pairs s room ≡ Refused r ↔ TidyGiven pairs s room r
+  pub tidy-refused-iff : (room : ℕ) (r : Refusal) → tidied pairs s room ≡ Err r ↔ TidyGiven pairs s room r
   unfolding tidied
-  tidy-refused-iff room r = settled-refused (checked pairs s) (tidy_bytes s) (Iff.symm (answer-is pairs s Accepted)) (refused-iff pairs s) room r
+  tidy-refused-iff room r = settled-refused (checked pairs s) (tidy_bytes s) (Iff.symm (answer-is pairs s (Ok _))) (refused-iff pairs s) room r
 
   -- in numbers
   pub tidy-refused-numbers : (out : List ℕ) (r : Refusal) → (tidy_of pairs s out).answer ≡ refused r ↔ TidyGiven pairs s (length out) r
   unfolding tidy_of
   tidy-refused-numbers out = written-numbers (tidied pairs s (length out)) (tidy-refused-iff (length out))
 
-  pub tidy-refused-keeps : (out : List ℕ) (r : Refusal) → tidied pairs s (length out) ≡ Refused r → (tidy_of pairs s out).output ≡ out
+  pub tidy-refused-keeps : (out : List ℕ) (r : Refusal) → tidied pairs s (length out) ≡ Err r → (tidy_of pairs s out).output ≡ out
   unfolding tidy_of tidied
   tidy-refused-keeps out r e = refused-keeps (checked pairs s) (tidy_bytes s) out r e
 
@@ -71,39 +65,20 @@ module _ (pairs s : List ℕ) where
 
 -- ---- its length, with nothing written
 
--- what is answered before the room is looked at, and with it
-sized-is : (v : Verdict) (a : Bool) (q : Refusal) (n m : ℕ) → after Refused (v then must a q) (Done n) ≡ Done m → n ≡ m
-sized-is Accepted true q n m e = cc
-sized-is Accepted false q n m e = cc
-sized-is (Stopped x) a q n m e = cc
-
-told-done : (v : Verdict) (a b : Bool) (q p : Refusal) (n m : ℕ) → after Refused (v then must a q) (Done n) ≡ Done m → b ≡ true
-    → after Refused (v then (must a q then must b p)) (Done n) ≡ Done m
-told-done Accepted true b q p n m e f = rw f e
-told-done Accepted false b q p n m e f = cc
-told-done (Stopped x) a b q p n m e f = cc
-
-told-refused : (v : Verdict) (a b : Bool) (q p : Refusal) (n : ℕ) (r : Refusal) → after Refused (v then must a q) (Done n) ≡ Refused r
-    → after Refused (v then (must a q then must b p)) (Done n) ≡ Refused r
-told-refused Accepted true b q p n r e = cc
-told-refused Accepted false b q p n r e = e
-told-refused (Stopped x) a b q p n r e = e
-
 module _ (pairs s : List ℕ) where
   -- tidy makes just so many bytes wherever there is room for them
-  pub length-tells : (n room : ℕ) → tidy_sized pairs s ≡ Done n → n ≤ room → tidied pairs s room ≡ Done n
-  unfolding tidy_sized tidied settled room_verdict
+  pub length-tells : (n room : ℕ) → tidy_sized pairs s ≡ Ok n → n ≤ room → tidied pairs s room ≡ Ok n
+  unfolding tidy_sized tidied
   length-tells n room e l =
-      let m : ℕ = length (tidy_bytes s) in
-      let same : m ≡ n = sized-is (checked pairs s) (leb m file_limit) (refusal Large 0) m n e in
-      told-done (checked pairs s) (leb m file_limit) (leb m room) (refusal Large 0) (refusal Room 0) m n e (le-leb m room (omega arith))
+      let t = simp (then-answers, rows) at e in
+      (settled-done (checked pairs s) (tidy_bytes s) room n).1 ((t.0.0, (t.0.1, omega arith)), t.1)
 
   -- and refuses so wherever the length is refused
-  pub length-refused : (room : ℕ) (r : Refusal) → tidy_sized pairs s ≡ Refused r → tidied pairs s room ≡ Refused r
+  pub length-refused : (room : ℕ) (r : Refusal) → tidy_sized pairs s ≡ Err r → tidied pairs s room ≡ Err r
   unfolding tidy_sized tidied settled room_verdict
   length-refused room r e =
-      let m : ℕ = length (tidy_bytes s) in
-      told-refused (checked pairs s) (leb m file_limit) (leb m room) (refusal Large 0) (refusal Room 0) m r e
+      let t = simp (then-refuses, then-refused) at e in
+      simp (then-refuses, then-refused) (⊎_map (λ q. q) (λ q. (q.0, (then-refused (limit_verdict (length (tidy_bytes s))) _ r).1 (inl q.1))) t)
 
   pub one-tidy-length : (v w : Written) → written_answer v ≡ tidy_length_of pairs s → written_answer w ≡ tidy_length_of pairs s → v ≡ w
   one-tidy-length v w e f = written-settled v w (e ∙ sym f)

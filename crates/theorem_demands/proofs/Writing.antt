@@ -11,12 +11,11 @@ use native.Mathlib.Omega.{arith}
 use borrow.Author.Tests.{eqb-false}
 use lib.ListN.{length, take, drop, length-drop}
 use lib.Seq.{length-take-le}
+use Rattle.std.specs.Prelude.{Err}
 use Rattle.numbers.specs.Numbers.{Bytes}
 use Rattle.numbers.proofs.NumberLaws.{bytes_take, bytes_drop}
 use Rattle.answer.specs.declared.Refusal.{Refusal}
-use Rattle.answer.specs.declared.Written.{Written}
-use Rattle.answer.specs.declared.Written.TheVariants.{Refused}
-use Rattle.answer.specs.Answers.{refused}
+use Rattle.answer.specs.Answers.{refused, Written}
 use Rattle.lists.proofs.Tests.{by-test, and-iff, leb-iff, ltb_iff}
 use Rattle.segment.specs.declared.entry.Entry.{Entry}
 use Rattle.segment.specs.Format.{v3, file_limit}
@@ -69,7 +68,7 @@ module _ (pairs : List ℕ) (q : Request) where
         λ d. ((d.0.asks, (d.0.small, d.0.fits)), d.1),
       )
 
-  pub write-refused-iff : (room : ℕ) (r : Refusal) → wrote pairs q room ≡ Refused r ↔ WriteGiven pairs q room r
+  pub write-refused-iff : (room : ℕ) (r : Refusal) → wrote pairs q room ≡ Err r ↔ WriteGiven pairs q room r
   unfolding wrote
   write-refused-iff room r =
       settled-refused (request_verdict v3 pairs q) (written_bytes q) (request-accepted pairs q) (request-refused-iff pairs q) room r
@@ -79,7 +78,7 @@ module _ (pairs : List ℕ) (q : Request) where
   unfolding write_of
   write-refused-numbers out = written-numbers (wrote pairs q (length out)) (write-refused-iff (length out))
 
-  pub write-refused-keeps : (out : List ℕ) (r : Refusal) → wrote pairs q (length out) ≡ Refused r → (write_of pairs q out).output ≡ out
+  pub write-refused-keeps : (out : List ℕ) (r : Refusal) → wrote pairs q (length out) ≡ Err r → (write_of pairs q out).output ≡ out
   unfolding write_of wrote
   write-refused-keeps out r e = refused-keeps (request_verdict v3 pairs q) (written_bytes q) out r e
 

@@ -2,7 +2,7 @@
 -- of an accepted segment and a key that the table allows it says absent exactly when no record has the key, and
 -- otherwise gives that record; no two records have it.
 -- Assumes nothing: these are definitions.
-use Rattle.std.specs.Prelude.{ℕ, ◌*◌, ◌<◌, ◌≡◌, true, false, ◌↔◌, List, take, drop}
+use Rattle.std.specs.Prelude.{ℕ, ◌*◌, ◌<◌, ◌≡◌, true, false, ◌↔◌, List, take, drop, Ok}
 use Rattle.answer.specs.declared.Refusal.{Refusal}
 use Rattle.answer.specs.declared.Rule.TheVariants.{Table, Key as KeyWrong}
 use Rattle.answer.specs.Answers.{refusal, found_answer}
@@ -23,7 +23,7 @@ pub record Finds (pairs s : List ℕ) (key : Key) : Type 0 where
   -- absent exactly when no record has the key
   pub absent-iff : look_up_of pairs s key ≡ absent ↔ ((k : ℕ) → HasKey s key k → ⊥)
   -- otherwise that record's answer, field for field
-  pub that-record : (k : ℕ) → HasKey s key k → look_up_of pairs s key ≡ found_answer (record_found (record_no v3 s (header_of s) k))
+  pub that-record : (k : ℕ) → HasKey s key k → look_up_of pairs s key ≡ found_answer (Ok (record_found (record_no v3 s (header_of s) k)))
   -- and, if it is not gone, the part that is handed back is its extents' bytes
   pub its-extents : (k : ℕ) → HasKey s key k → ((record_no v3 s (header_of s) k).flags ≡ 1 → ⊥)
       → extents_part (looked_up pairs s key) s

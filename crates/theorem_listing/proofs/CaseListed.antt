@@ -3,8 +3,8 @@
 use mathlib.Core.Path.{◌≡◌, refl, sym, ap, ◌∙◌}
 use mathlib.Core.List.{[]}
 use native.Mathlib.Omega.{arith}
+use Rattle.std.specs.Prelude.{Ok}
 use Rattle.lists.specs.Lists.{lex_leq, insert, sort_by}
-use Rattle.answer.specs.declared.Verdict.TheVariants.{Accepted}
 use Rattle.table.specs.Table.{stands, good_pairs, good_table, allows}
 use Rattle.segment.specs.declared.header.Heading.{Heading}
 use Rattle.segment.specs.Format.{v3}
@@ -34,7 +34,7 @@ module _ (t : Heading) (w : HeadingWritable t) where
   unfolding allows
   tidies = case-l-tidies table_listed t refl w
 
-  accepted : checked table_listed (tidy_of_rows t case_l) ≡ Accepted
+  accepted : checked table_listed (tidy_of_rows t case_l) ≡ Ok _
   unfolding good_table good_pairs stands
   accepted = (checked-iff table_listed (tidy_of_rows t case_l) refl).1 (tidy-meets v3 v3-shaped table_listed (meaning_under t) tidies)
 

@@ -8,10 +8,9 @@ use mathlib.Core.List.{List, [], ◌∷◌}
 use native.Mathlib.Omega.{arith}
 use borrow.Author.Tests.{eqb-false}
 use lib.ListN.{length, take, drop}
-use Rattle.answer.specs.declared.Source.{Source}
-use Rattle.answer.specs.declared.Found.{Found}
+use Rattle.std.specs.Prelude.{Ok}
 use Rattle.answer.specs.declared.Found.TheVariants.{Absent, Gone, Present}
-use Rattle.answer.specs.Answers.{found_answer}
+use Rattle.answer.specs.Answers.{found_answer, Source}
 use Rattle.lists.proofs.Tests.{by-test}
 use Rattle.answer.proofs.Settled.{found-settled}
 use Rattle.segment.specs.declared.header.Header.{Header}
@@ -23,7 +22,7 @@ use Rattle.segment.specs.Keys.{key_of, Key, allows_key}
 use Rattle.segment.specs.Check.{is_gone, key_no, check_of}
 use Rattle.segment.specs.Meets.{LayoutMeets, LiveMeets, RecordMeets, Meets}
 use Rattle.segment.specs.Meaning.{Row, row_key, source_of, row_of, row_no, rows_of, heading_of, meaning_of, SameMeaning}
-use Rattle.segment.specs.LookUp.{record_found, looked_up, look_up_of, extents_part}
+use Rattle.segment.specs.LookUp.{LookedUp, record_found, looked_up, look_up_of, extents_part}
 use Rattle.segment.proofs.Extents.{extents-counted}
 use Rattle.theorem_demands.specs.Answered.{accepted, absent}
 use Rattle.theorem_demands.specs.LookUps.{HasKey, Finds}
@@ -53,12 +52,12 @@ part-extents s a m k (suc n) l u =
 -- ---- a record's answer is its row's
 
 record-told : (s : List ℕ) (h : Header) (pairs : List ℕ) (q : Record) → LayoutMeets v3 s h → RecordMeets v3 pairs s h q
-    → telling_of (record_found q) s ≡ row_telling h.domain (row_of s q)
+    → telling_of (Ok (record_found q)) s ≡ row_telling h.domain (row_of s q)
 unfolding record_found row_of extents_part
 record-told s h pairs q y m =
     let source : Source = source_of q.imported q.source in
     by-test (is_gone q)
-    (λ g. rw g (λ j. record { answer = found_answer (Gone q.visibility (m.marks.domain j) source); extents = [] }))
+    (λ g. rw g (λ j. record { answer = found_answer (Ok (Gone q.visibility (m.marks.domain j) source)); extents = [] }))
     (λ g.
     let n = eqb-false q.flags 1 g in
     let at = q.extents_offset.0 in
@@ -69,7 +68,7 @@ record-told s h pairs q y m =
     rw z at (part-extents s at (16 * count) 0 count (omega (arith, inside, y.file)) (omega arith)) in
     let total = sym (m.total.live n).sum in
     let counted = sym (extents-counted s at count) in
-    rw g (λ j. record { answer = found_answer (Present q.visibility (m.marks.domain j) source (total j) (in_file 0) (counted j)); extents = there j }))
+    rw g (λ j. record { answer = found_answer (Ok (Present q.visibility (m.marks.domain j) source (total j) (in_file 0) (counted j))); extents = there j }))
 
 -- ---- an accepted segment
 
@@ -97,8 +96,8 @@ module _ (pairs s : List ℕ) (key : Key) (e : check_of pairs s ≡ accepted) (a
   row_told k h =
       let m : Meets v3 pairs s = ((accepts-iff pairs s).0 e).1 in
       let q : Record = record_no v3 s (header_of s) k in
-      let found : looked_up pairs s key ≡ record_found q = found-settled (looked_up pairs s key) (record_found q) (finds.that-record k h) in
-      ap (λ (f : Found). telling_of f s) found ∙ record-told s (header_of s) pairs q m.layout (m.each k h.within)
+      let found : looked_up pairs s key ≡ Ok (record_found q) = found-settled (looked_up pairs s key) (Ok (record_found q)) (finds.that-record k h) in
+      ap (λ (f : LookedUp). telling_of f s) found ∙ record-told s (header_of s) pairs q m.layout (m.each k h.within)
 
   pub look-up-means : LookMeans pairs s key
   unfolding meaning_of heading_of rows_of
@@ -114,9 +113,9 @@ module _ (pairs s : List ℕ) (key : Key) (e : check_of pairs s ≡ accepted) (a
 
 -- ---- two that mean the same
 
-none_alike : (pairs s : List ℕ) (key : Key) → look_up_of pairs s key ≡ absent → looked_up pairs s key ≡ Absent
+none_alike : (pairs s : List ℕ) (key : Key) → look_up_of pairs s key ≡ absent → looked_up pairs s key ≡ Ok Absent
 unfolding look_up_of
-none_alike pairs s key e = found-settled (looked_up pairs s key) Absent e
+none_alike pairs s key e = found-settled (looked_up pairs s key) (Ok Absent) e
 
 pub look-ups-alike : (pairs a others b : List ℕ) (key : Key) → check_of pairs a ≡ accepted → check_of others b ≡ accepted
     → allows_key pairs key ≡ true → allows_key others key ≡ true → SameMeaning (meaning_of v3 a) (meaning_of v3 b)

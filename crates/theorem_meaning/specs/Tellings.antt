@@ -6,18 +6,17 @@
 --   row_telling    what a record of a meaning comes to, in a domain
 --   LookMeans     look up answers so
 -- Assumes nothing: these are definitions.
-use Rattle.std.specs.Prelude.{ℕ, ◌≡◌, ◌↔◌, length}
+use Rattle.std.specs.Prelude.{ℕ, ◌≡◌, ◌↔◌, length, Ok, Err}
 use mathlib.Core.List.{List, [], Mem}
-use Rattle.answer.specs.declared.Source.{Source}
 use Rattle.answer.specs.declared.Found.{Found}
-use Rattle.answer.specs.declared.Found.TheVariants.{Absent, Gone, Present, Refused}
-use Rattle.answer.specs.Answers.{Answer, found_answer}
+use Rattle.answer.specs.declared.Found.TheVariants.{Absent, Gone, Present}
+use Rattle.answer.specs.Answers.{Answer, found_answer, Source}
 use Rattle.segment.specs.declared.extent.Extent.{Extent}
 use Rattle.segment.specs.Format.{v3, in_file, extents_at}
 use Rattle.segment.specs.Keys.{key_of, Key}
 use Rattle.segment.specs.Check.{sum_lengths}
 use Rattle.segment.specs.Meaning.{State, gone, live, Row, row_key, row_extents, meaning_of}
-use Rattle.segment.specs.LookUp.{looked_up, look_up_of, extents_part}
+use Rattle.segment.specs.LookUp.{LookedUp, looked_up, look_up_of, extents_part}
 use Rattle.theorem_demands.specs.Answered.{absent}
 
 -- the answer in numbers, with 0 for where the extents lie; and the extents themselves
@@ -25,20 +24,20 @@ pub record Telling : Type 0 where
   pub answer : Answer
   pub extents : List Extent
 
-abbrev pub anywhere : Found → Found
-anywhere Absent = Absent
-anywhere (Gone visibility domain source) = Gone visibility domain source
-anywhere (Present visibility domain source total start count) = Present visibility domain source total (in_file 0) count
-anywhere (Refused r) = Refused r
+abbrev pub anywhere : LookedUp → LookedUp
+anywhere (Ok Absent) = Ok Absent
+anywhere (Ok (Gone visibility domain source)) = Ok (Gone visibility domain source)
+anywhere (Ok (Present visibility domain source total start count)) = Ok (Present visibility domain source total (in_file 0) count)
+anywhere (Err r) = Err r
 
 -- the extents, read out of the part of the segment that is handed back
-abbrev pub extents_told : Found → List ℕ → List Extent
-extents_told Absent bytes = []
-extents_told (Gone visibility domain source) bytes = []
-extents_told (Present visibility domain source total start count) bytes = extents_at bytes 0 count
-extents_told (Refused r) bytes = []
+abbrev pub extents_told : LookedUp → List ℕ → List Extent
+extents_told (Ok Absent) bytes = []
+extents_told (Ok (Gone visibility domain source)) bytes = []
+extents_told (Ok (Present visibility domain source total start count)) bytes = extents_at bytes 0 count
+extents_told (Err r) bytes = []
 
-abbrev pub telling_of : Found → List ℕ → Telling
+abbrev pub telling_of : LookedUp → List ℕ → Telling
 telling_of f s = record { answer = found_answer (anywhere f); extents = extents_told f (extents_part f s) }
 
 abbrev pub state_found : (visibility domain : ℕ) → Source → State → Found
@@ -46,7 +45,7 @@ state_found visibility domain source gone = Gone visibility domain source
 state_found visibility domain source (live es) = Present visibility domain source (sum_lengths es) (in_file 0) (length es)
 
 abbrev pub row_telling : ℕ → Row → Telling
-row_telling domain r = record { answer = found_answer (state_found r.visibility domain r.source r.state); extents = row_extents r }
+row_telling domain r = record { answer = found_answer (Ok (state_found r.visibility domain r.source r.state)); extents = row_extents r }
 
 pub record LookMeans (pairs s : List ℕ) (key : Key) : Type 0 where
   pub absent-iff : look_up_of pairs s key ≡ absent

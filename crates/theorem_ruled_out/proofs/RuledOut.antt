@@ -9,9 +9,10 @@ use mathlib.Core.List.{List, [], ◌∷◌, ◌++◌}
 use native.Mathlib.Omega.{arith}
 use lib.Dec.{lit<}
 use lib.ListN.{length, get_or, drop}
+use Rattle.std.specs.Prelude.{Ok}
+use Rattle.answer.specs.Rules.{accepted}
 use Rattle.numbers.specs.Numbers.{le, num_at, bytes_of}
 use Rattle.lists.specs.Lists.{lex_leq, insert, sort_by}
-use Rattle.answer.specs.declared.Verdict.TheVariants.{Accepted}
 use Rattle.answer.specs.Answers.{Answer, answered, found_answer}
 use Rattle.table.specs.Table.{good_table, good_pairs, stands, allows}
 use Rattle.table_pairs.specs.Pairs.{length_in, length_of}
@@ -111,7 +112,7 @@ record Computed : Type 0 where
   fakes-digest : get_or fakes 215 0 ≡ 0
   form-digest : get_or form_l 215 0 ≡ 0x0e
   has_first : HasKey form_l first_key 0
-  tells_first : found_answer (record_found (record_no v3 form_l (header_of form_l) 0)) ≡ told
+  tells_first : found_answer (Ok (record_found (record_no v3 form_l (header_of form_l) 0))) ≡ told
 
 computed : Computed
 unfolding good_table good_pairs stands allows turned tidy_form form_of form_body form_header sort_by insert lex_leq packed header_fields record_fields record_for sum_lengths records_bytes digest_bytes digest_section extent_list_bytes extent_bytes extent_fields footer_fields bytes_of num_at le header_of record_of record_no digest_in key_no record_found
@@ -151,11 +152,11 @@ turned-means : meaning_of v3 turned ≡ record { heading = meaning_l.heading; bl
 unfolding turned
 turned-means = form-means v3 v3-shaped table_l meaning_l.heading [] turned_l turned-form
 
-turned-accepted : checked table_l turned ≡ Accepted
+turned-accepted : checked table_l turned ≡ accepted
 unfolding turned
 turned-accepted =
     let meets = form-meets v3 v3-shaped table_l meaning_l.heading [] turned_l turned-form in
-    (answer-is table_l turned Accepted).0 ((accepts-iff table_l turned).1 (computed.good, meets))
+    (answer-is table_l turned accepted).0 ((accepts-iff table_l turned).1 (computed.good, meets))
 
 -- another result than case L's tidy form
 other-tidied : (result : List ℕ → List ℕ) → length (result turned) ≤ 256 → result turned ≢ form_l

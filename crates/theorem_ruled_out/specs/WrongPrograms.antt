@@ -4,8 +4,8 @@
 --   ruled_out    the wrong programs, each with such an input
 -- Assumes nothing: these are definitions.
 use Rattle.std.specs.Prelude.{ℕ, ◌≡◌, cond, ◌≢◌, List, [], ◌∷◌, ◌++◌, map, eqb, length, take, drop, replicate}
+use Rattle.answer.specs.Rules.{Verdict}
 use Rattle.lists.specs.Lists.{sort_by}
-use Rattle.answer.specs.declared.Verdict.{Verdict}
 use Rattle.answer.specs.Answers.{Answer, answered}
 use Rattle.table_pairs.specs.declared.Pair.{Pair}
 use Rattle.table_pairs.specs.Pairs.{length_of}

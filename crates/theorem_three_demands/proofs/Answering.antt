@@ -7,6 +7,8 @@ use mathlib.Core.Logic.{⊎_elim}
 use mathlib.Core.List.{List, []}
 use lib.Dec.{eqb}
 use lib.ListN.{length}
+use Rattle.std.specs.Prelude.{Err, None, Ok, Some}
+use Rattle.answer.specs.Rules.{Verdict}
 use Rattle.answer.specs.declared.Refusal.{Refusal}
 use Rattle.answer.specs.declared.Rule.{Rule}
 use Rattle.answer.specs.declared.Rule.TheVariants.{
@@ -32,22 +34,15 @@ use Rattle.answer.specs.declared.Rule.TheVariants.{
   Large,
   Key as KeyWrong,
 }
-use Rattle.answer.specs.declared.Verdict.{Verdict}
-use Rattle.answer.specs.declared.Verdict.TheVariants.{Accepted, Refused}
-use Rattle.answer.specs.declared.Found.{Found}
-use Rattle.answer.specs.declared.Found.TheVariants.{Absent, Gone, Present, Refused as NotFound}
-use Rattle.answer.specs.declared.Written.{Written}
-use Rattle.answer.specs.declared.Written.TheVariants.{Done, Refused as NotWritten}
-use Rattle.answer.specs.Answers.{rule_number, refusal, answered, refused, check_answer, found_answer, written_answer}
+use Rattle.answer.specs.declared.Found.TheVariants.{Absent, Gone, Present}
+use Rattle.answer.specs.Answers.{rule_number, refusal, answered, refused, check_answer, found_answer, written_answer, Written}
 use Rattle.answer.proofs.Order.{or_right}
 use Rattle.answer.proofs.Settled.{in-table}
 use Rattle.segment.specs.declared.entry.Entry.{Entry}
-use Rattle.segment.specs.declared.step.Step.{Step}
-use Rattle.segment.specs.declared.step.Step.TheVariants.{Row, Done as NoRow, Refused as NoStep}
 use Rattle.segment.specs.Keys.{Key}
 use Rattle.segment.specs.Check.{checked, check_of}
-use Rattle.segment.specs.LookUp.{looked_up, look_up_of}
-use Rattle.segment.specs.Walk.{stepped}
+use Rattle.segment.specs.LookUp.{LookedUp, looked_up, look_up_of}
+use Rattle.segment.specs.Walk.{stepped, Step}
 use Rattle.segment.specs.Meaning.{meaning_of}
 use Rattle.segment.specs.Format.{v3, header_of, record_count}
 use Rattle.segment.specs.Tidy.{tidy_form, outcome, output_after, tidied, tidy_sized, tidy_length_of, tidy_of}
@@ -175,28 +170,28 @@ request-placed pairs q r (by-twice k u t) = at_item Duplicate refl t.within
 -- ---- what is answered
 
 module _ {P : PlaceRule} (o : Common P) where
-  verdict-placed : (v : Verdict) → ((r : Refusal) → v ≡ Refused r → PlacedBy P (refused r)) → PlacedBy P (check_answer v)
-  verdict-placed Accepted b = o.answers []
-  verdict-placed (Refused r) b = b r refl
+  verdict-placed : (v : Verdict) → ((r : Refusal) → v ≡ Err r → PlacedBy P (refused r)) → PlacedBy P (check_answer v)
+  verdict-placed (Ok _) b = o.answers []
+  verdict-placed (Err r) b = b r refl
 
-  found-placed : (f : Found) → ((r : Refusal) → f ≡ NotFound r → PlacedBy P (refused r)) → PlacedBy P (found_answer f)
-  found-placed Absent b = o.answers _
-  found-placed (Gone v d x) b = o.answers _
-  found-placed (Present v d x t a c) b = o.answers _
-  found-placed (NotFound r) b = b r refl
+  found-placed : (f : LookedUp) → ((r : Refusal) → f ≡ Err r → PlacedBy P (refused r)) → PlacedBy P (found_answer f)
+  found-placed (Ok Absent) b = o.answers _
+  found-placed (Ok (Gone v d x)) b = o.answers _
+  found-placed (Ok (Present v d x t a c)) b = o.answers _
+  found-placed (Err r) b = b r refl
 
-  step_stays : (t : Step) (at : ℕ) → ((r : Refusal) → t ≡ NoStep r → PlacedBy P (refused r)) → Stays P t at
-  step_stays (Row x) at b = record { placed = o.answers _; kept = λ f. absurd (f refl) }
-  step_stays NoRow at b = record { placed = o.answers _; kept = λ f. absurd (f refl) }
-  step_stays (NoStep r) at b = record { placed = b r refl; kept = λ f. refl }
+  step_stays : (t : Step) (at : ℕ) → ((r : Refusal) → t ≡ Err r → PlacedBy P (refused r)) → Stays P t at
+  step_stays (Ok (Some x)) at b = record { placed = o.answers _; kept = λ f. absurd (f refl) }
+  step_stays (Ok None) at b = record { placed = o.answers _; kept = λ f. absurd (f refl) }
+  step_stays (Err r) at b = record { placed = b r refl; kept = λ f. refl }
 
-  written-placed : (w : Written) → ((r : Refusal) → w ≡ NotWritten r → PlacedBy P (refused r)) → PlacedBy P (written_answer w)
-  written-placed (Done m) b = o.answers _
-  written-placed (NotWritten r) b = b r refl
+  written-placed : (w : Written) → ((r : Refusal) → w ≡ Err r → PlacedBy P (refused r)) → PlacedBy P (written_answer w)
+  written-placed (Ok m) b = o.answers _
+  written-placed (Err r) b = b r refl
 
 written-leaves : {P : PlaceRule} (w : Written) (result out : List ℕ) → PlacedBy P (written_answer w) → Leaves P (outcome w (output_after w result out)) out
-written-leaves (Done m) result out p = record { placed = p; kept = λ f. absurd (f refl) }
-written-leaves (NotWritten r) result out p = record { placed = p; kept = λ f. refl }
+written-leaves (Ok m) result out p = record { placed = p; kept = λ f. absurd (f refl) }
+written-leaves (Err r) result out p = record { placed = p; kept = λ f. refl }
 
 -- ---- the services, on every input
 
@@ -214,7 +209,7 @@ module _ (pairs s : List ℕ) where
       step_stays (segment-common s) (stepped pairs s at) at
       (λ r e. given-placed pairs s r ((refused-iff pairs s r).0 ((step-refused-iff pairs s at r).0 e)))
 
-  tidied-placed : (room : ℕ) (r : Refusal) → tidied pairs s room ≡ NotWritten r → PlacedBy (in_segment s) (refused r)
+  tidied-placed : (room : ℕ) (r : Refusal) → tidied pairs s room ≡ Err r → PlacedBy (in_segment s) (refused r)
   tidied-placed room r e = ⊎_elim (given-placed pairs s r) (λ z. size-placed (segment-common s) r z.1) ((tidy-refused-iff pairs s room r).0 e)
 
   pub tidy-length-placed : PlacedBy (in_segment s) (tidy_length_of pairs s)

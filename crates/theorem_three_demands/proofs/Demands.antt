@@ -3,17 +3,15 @@
 use Prim.Native.Nat.{ℕ}
 use mathlib.Core.Path.{◌≡◌, refl}
 use mathlib.Core.List.{List, []}
-use Rattle.answer.specs.declared.Found.{Found}
-use Rattle.answer.specs.declared.Found.TheVariants.{Absent, Gone, Present, Refused as NotFound}
+use Rattle.std.specs.Prelude.{Option, None, Some, Ok, Err}
+use Rattle.answer.specs.declared.Found.TheVariants.{Absent, Gone, Present}
 use Rattle.answer.specs.Answers.{found_answer}
 use Rattle.answer.proofs.Settled.{in-table, no-5, refusal_of, table-full}
-use Rattle.table_pairs.specs.declared.Length.{Length}
-use Rattle.table_pairs.specs.declared.Length.TheVariants.{Known, Unknown}
 use Rattle.table_pairs.specs.Pairs.{length_in, length_answer, length_of}
 use Rattle.segment.specs.Keys.{Key}
 use Rattle.segment.specs.Format.{v3}
 use Rattle.segment.specs.Check.{check_of}
-use Rattle.segment.specs.LookUp.{looked_up, look_up_of, extents_part}
+use Rattle.segment.specs.LookUp.{LookedUp, looked_up, look_up_of, extents_part}
 use Rattle.segment.specs.Walk.{stepped}
 use Rattle.segment.specs.Meaning.{meaning_of}
 use Rattle.segment.specs.Tidy.{tidy_length_of, tidy_of}
@@ -31,16 +29,16 @@ use Rattle.theorem_three_demands.specs.Demands.{DemandOne, DemandTwo, CanTidy, D
 use Rattle.theorem_three_demands.proofs.Answering.{segment-common, request-common, check-placed, look-up-placed, stepped-stays, tidy-length-placed, tidy-leaves, write-leaves}
 use Rattle.theorem_three_demands.proofs.Entering.{bits-placed, reply-leaves, step-leaves, sealed-leaves}
 
-length-answered : (l : Length) → (length_answer l).number ≡ 0
-length-answered (Known n) = refl
-length-answered Unknown = refl
+length-answered : (l : Option ℕ) → (length_answer l).number ≡ 0
+length-answered (Some n) = refl
+length-answered None = refl
 
-no_part : (s : List ℕ) (f : Found) → IsRefused (found_answer f) → extents_part f s ≡ []
+no_part : (s : List ℕ) (f : LookedUp) → IsRefused (found_answer f) → extents_part f s ≡ []
 unfolding extents_part
-no_part s Absent n = refl
-no_part s (Gone v d o) n = refl
-no_part s (Present v d o t a c) n = absurd (n refl)
-no_part s (NotFound r) n = refl
+no_part s (Ok Absent) n = refl
+no_part s (Ok (Gone v d o)) n = refl
+no_part s (Ok (Present v d o t a c)) n = absurd (n refl)
+no_part s (Err r) n = refl
 
 pub demand-one : (pairs table s : List ℕ) (key : Key) (at : ℕ) (q : Request) (out : List ℕ) → DemandOne pairs table s key at q out
 unfolding look_up_of length_of reply_of

@@ -10,12 +10,11 @@ use native.Mathlib.Omega.{arith}
 use borrow.Author.Tests.{eqb-true}
 use lib.Dec.{eqb, leb}
 use lib.ListN.{length, get_or}
+use Rattle.std.specs.Prelude.{Err, None, Ok, Some}
 use Rattle.answer.specs.Answers.{in_table, Answer, answered}
 use Rattle.answer.proofs.Settled.{table-small}
 use Rattle.lists.proofs.Tests.{by-test, or-either}
-use Rattle.segment.specs.declared.step.Step.{Step}
-use Rattle.segment.specs.declared.step.Step.TheVariants.{Row, Done as NoRow, Refused as NoStep}
-use Rattle.segment.specs.Walk.{record_values, step_answer}
+use Rattle.segment.specs.Walk.{record_values, step_answer, Step}
 use Rattle.segment.specs.Tidy.{Outcome}
 use Rattle.c_answer.specs.declared.Reply.{Reply}
 use Rattle.c_answer.specs.Boundary.{answer_bits, bits_of, left, given_to, reply_left, step_left, sealed_as}
@@ -85,9 +84,9 @@ module _ {P : PlaceRule} (o : Common P) where
 
   pub step-leaves : (t : Step) (fields : List ℕ) → PlacedBy P (step_answer t) → LeavesAt P (step_left t fields) fields
   unfolding step_left
-  step-leaves (Row r) fields p = given-leaves 1 (record_values r) fields
-  step-leaves NoRow fields p = value-leaves 2 fields fields
-  step-leaves (NoStep r) fields p = refusal-leaves _ _ fields p
+  step-leaves (Ok (Some r)) fields p = given-leaves 1 (record_values r) fields
+  step-leaves (Ok None) fields p = value-leaves 2 fields fields
+  step-leaves (Err r) fields p = refusal-leaves _ _ fields p
 
   pub sealed-leaves : (x : Outcome) (out : List ℕ) → Leaves P x out → LeavesAt P (sealed_as x) out
   unfolding sealed_as bits_of

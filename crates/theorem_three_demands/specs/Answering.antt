@@ -10,8 +10,7 @@
 use Rattle.std.specs.Prelude.{ℕ, ◌/◌, ◌%◌, ◌<◌, ◌≡◌, Bool, true, false, cond, ◌&&◌, ◌||◌, List, [], leb, eqb}
 use Rattle.answer.specs.Answers.{in_table, Answer, answered}
 use Rattle.segment.specs.Format.{v3, header_of, record_count, record_at}
-use Rattle.segment.specs.declared.step.Step.{Step}
-use Rattle.segment.specs.Walk.{next_place, step_answer}
+use Rattle.segment.specs.Walk.{next_place, step_answer, Step}
 use Rattle.segment.specs.Tidy.{Outcome}
 use Rattle.c_answer.specs.Boundary.{Left}
 use Rattle.theorem_demands.specs.Answered.{refused_by}

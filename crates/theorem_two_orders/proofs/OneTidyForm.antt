@@ -9,11 +9,9 @@ use mathlib.Core.List.{List, [], ◌∷◌}
 use native.Mathlib.Omega.{arith}
 use lib.ListN.{length, take}
 use lib.Seq.{take_at}
+use Rattle.std.specs.Prelude.{Ok}
 use Rattle.numbers.specs.Numbers.{bytes_of}
-use Rattle.answer.specs.declared.Verdict.TheVariants.{Accepted}
-use Rattle.answer.specs.declared.Written.{Written}
-use Rattle.answer.specs.declared.Written.TheVariants.{Done}
-use Rattle.answer.specs.Answers.{answered}
+use Rattle.answer.specs.Answers.{answered, Written}
 use Rattle.answer.proofs.Settled.{check-settled, written-settled}
 use Rattle.segment.specs.Format.{v3, file_limit}
 use Rattle.lists.specs.Lists.{lex_leq, insert, sort_by}
@@ -85,15 +83,15 @@ module _ (s t : List ℕ) (p : Holds s case_l) (q : Holds t turned_l) where
   tidied-as : (u out : List ℕ) → check_of table u ≡ accepted → tidy_bytes u ≡ form_l → tidy_of table u out ≡ tidy_of table form_l out
   unfolding tidy_of tidied check_of
   tidied-as u out a e =
-      rw (check-settled (checked table u) Accepted a, check-settled (checked table form_l) Accepted form-keeps-it.accepts, e, form-keeps-it.itself)
+      rw (check-settled (checked table u) (Ok _) a, check-settled (checked table form_l) (Ok _) form-keeps-it.accepts, e, form-keeps-it.itself)
 
   -- a call into an output that has room
   module _ (w : Written) (out after : List ℕ) (e : outcome w after ≡ tidy_of table form_l out) (room : 256 ≤ length out) where
     wrote : Wrote (tidy_of table form_l out) out form_l
     wrote = form-keeps-it.again out (rw long room)
 
-    done : w ≡ Done 256
-    done = written-settled w (Done 256) (ap (λ (o : Outcome). o.answer) e ∙ wrote.answer ∙ ap (λ (n : ℕ). answered (n ∷ [])) long)
+    done : w ≡ Ok 256
+    done = written-settled w (Ok 256) (ap (λ (o : Outcome). o.answer) e ∙ wrote.answer ∙ ap (λ (n : ℕ). answered (n ∷ [])) long)
 
     front : take 256 after ≡ form_l
     front = ap (λ (o : Outcome). take 256 o.output) e ∙ ap (take 256) wrote.output ∙ take_at form_l _ 256 long

@@ -5,9 +5,8 @@
 --   form_l             case L's tidy form
 --   Alike, OneForm    what two calls of tidy answer and leave, one for each segment
 -- Assumes nothing: these are definitions.
-use Rattle.std.specs.Prelude.{ℕ, ◌≤◌, ◌≡◌, List, [], ◌∷◌, ◌++◌, length, take, drop}
+use Rattle.std.specs.Prelude.{ℕ, ◌≤◌, ◌≡◌, List, [], ◌∷◌, ◌++◌, length, take, drop, Ok}
 use Rattle.numbers.specs.Numbers.{Bytes}
-use Rattle.answer.specs.declared.Written.TheVariants.{Done}
 use Rattle.segment.specs.declared.header.Heading.{Heading}
 use Rattle.segment.specs.Format.{v3}
 use Rattle.segment.specs.Check.{check_of}
@@ -43,8 +42,8 @@ form_l = tidy_of_rows heading_l case_l
 
 -- both answers are the length, and the two results are the same bytes
 pub record Alike (x y : List ℕ) (r : Answers) : Type 0 where
-  pub first : r.first ≡ Done 256
-  pub second : r.second ≡ Done 256
+  pub first : r.first ≡ Ok 256
+  pub second : r.second ≡ Ok 256
   pub same : take 256 x ≡ take 256 y
 
 -- each call answers and leaves what tidy does of case L's tidy form itself; and where both outputs have room for it, the first 256 bytes are the same

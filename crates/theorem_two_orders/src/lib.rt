@@ -5,7 +5,7 @@
 ghost use Rattle.theorem_cases.specs.PCases.{case_l};
 ghost use Rattle.theorem_two_orders.specs.Orders.{turned_l, Holds, OneForm};
 
-use answer::Written;
+use answer::Refusal;
 use checksum::Engine;
 
 // Case L, tidy: header, two records, digests, extent, footer.
@@ -57,8 +57,8 @@ struct Pair {
 // What tidy answers of each.
 #[derive(Drop)]
 pub struct Answers {
-    pub first: Written,
-    pub second: Written,
+    pub first: Result<u64, Refusal>,
+    pub second: Result<u64, Refusal>,
 }
 
 // Both are accepted, and hold what their names say.

@@ -6,12 +6,11 @@ use mathlib.Core.Bool.{true, false}
 use mathlib.Core.List.{List}
 use native.Mathlib.Omega.{arith}
 use lib.ListN.{length, take, drop}
+use Rattle.std.specs.Prelude.{Err}
 use Rattle.numbers.specs.Numbers.{Bytes}
 use Rattle.numbers.proofs.NumberLaws.{num-fits}
 use Rattle.answer.specs.declared.Rule.TheVariants.{Table as TableWrong}
-use Rattle.answer.specs.Answers.{refusal}
-use Rattle.answer.specs.declared.Written.{Written}
-use Rattle.answer.specs.declared.Written.TheVariants.{Refused as NotWritten}
+use Rattle.answer.specs.Answers.{refusal, Written}
 use Rattle.segment.specs.declared.header.Header.{Header}
 use Rattle.segment.specs.declared.header.Heading.{Heading}
 use Rattle.segment.specs.declared.shape.Shape.{Shape}
@@ -83,7 +82,7 @@ read-form sh s list extents h t e f =
 -- ---- the table before the rest
 
 module _ (pairs s out : List ℕ) where
-  pub table-bad : good_table pairs ≡ false → outcome (NotWritten (refusal TableWrong 0)) out ≡ tidy_of pairs s out
+  pub table-bad : good_table pairs ≡ false → outcome (Err (refusal TableWrong 0)) out ≡ tidy_of pairs s out
   unfolding tidy_of tidied settled checked table_verdict
   table-bad e = rw e
 

@@ -9,13 +9,16 @@ ghost use Rattle.segment.specs.Meaning.{heading_of, meaning_of};
 ghost use Rattle.segment.specs.Tidy.{tidy_form, outcome, tidy_of};
 ghost use Rattle.put_form.specs.Emit.{EmittedAfter};
 
-use answer::{Refusal, Rule, Verdict, Written};
+use answer::{Refusal, Rule};
 use checksum::Engine;
-use key::Kind;
+use key::Items;
 use offset::FileOffset;
+use put_form::Frame;
+use put_item::Source;
 use segment::footer::Footer;
 use segment::header::{Header, Heading};
 use segment::shape::Shape;
+use table::Table;
 
 // The numbers of a segment that its tidy form keeps.
 fn heading_of(seg: &[u8], h: Header) -> Heading
@@ -34,45 +37,34 @@ fn heading_of(seg: &[u8], h: Header) -> Heading
 }
 
 // Everything but the table. Records are read from the segment alone.
-fn tidy_under(by: Engine, pairs: &[u64], seg: &[u8], out: &mut [u8]) -> Written
+fn tidy_under(by: Engine, pairs: &[u64], seg: &[u8], out: &mut [u8]) -> Result<u64, Refusal>
     requires { good_table pairs.now ≡ true }
     ensures { EmittedAfter (segment_verdict v3 pairs.now seg.now) (tidy_form v3 (meaning_of v3 seg.now))
         out.old out.new result }
 {
-    match check_segment::check_segment(by, pairs, seg) {
-        Verdict::Refused(x) => {
-            return Written::Refused(x);
-        }
-        Verdict::Accepted => {}
-    }
+    check_segment::check_segment(by, pairs, seg)?;
     let h = Header::of(seg);
     let t = heading_of(seg, h);
     let end = Header::SIZE + h.bloom_size as usize;
-    let first = h.records_offset;
-    let records = Kind::Records(first, Shape::V3);
-    let n = h.record_count as usize;
-    put_tidy::put_tidy(
+    let frame = Frame {
         by,
-        Shape::V3,
-        t,
-        &seg[Header::SIZE..end],
-        records,
-        seg,
-        &key::NO_LIST,
-        &key::NO_LIST,
-        n,
-        out,
-    )
+        shape: Shape::V3,
+        heading: t,
+        bloom: &seg[Header::SIZE..end],
+    };
+    let source = Source {
+        items: Items::records(h.records_offset, Shape::V3, seg),
+        extents: &key::NO_LIST,
+    };
+    put_tidy::put_tidy(frame, source, h.record_count as usize, out)
 }
 
 // A refused call leaves the output as it was; bytes after the result stay.
-pub fn tidy_by(by: Engine, pairs: &[u64], seg: &[u8], out: &mut [u8]) -> Written
+pub fn tidy_by(by: Engine, pairs: &[u64], seg: &[u8], out: &mut [u8]) -> Result<u64, Refusal>
     ensures { outcome result out.new ≡ tidy_of pairs.now seg.now out.old }
 {
-    if !table::good(pairs) {
-        return Written::Refused(Refusal(Rule::Table, 0));
-    }
-    let numbers = table::copied(pairs);
-    let count = pairs.len();
-    tidy_under(by, &numbers[..count], seg, out)
+    let Some(table) = Table::new(pairs) else {
+        return Err(Refusal(Rule::Table, 0));
+    };
+    tidy_under(by, table.pairs(), seg, out)
 }

@@ -8,12 +8,11 @@ use native.Mathlib.Numerals.{add-one}
 use native.Mathlib.Omega.{arith}
 use lib.ListN.{length, take, drop, length-append, length-drop}
 use lib.Seq.{length-take-le}
+use Rattle.std.specs.Prelude.{Err, Ok}
+use Rattle.answer.specs.Rules.{accepted}
 use Rattle.answer.specs.declared.Refusal.{Refusal}
 use Rattle.answer.specs.declared.Rule.TheVariants.{Large, Table as TableWrong}
-use Rattle.answer.specs.declared.Verdict.TheVariants.{Accepted, Refused as Stopped}
-use Rattle.answer.specs.declared.Written.{Written}
-use Rattle.answer.specs.declared.Written.TheVariants.{Done, Refused}
-use Rattle.answer.specs.Answers.{refusal, written_answer}
+use Rattle.answer.specs.Answers.{refusal, written_answer, Written}
 use Rattle.lists.proofs.Tests.{tests}
 use Rattle.table.specs.Table.{good_table, table_verdict}
 use Rattle.segment.specs.declared.header.Header.{Header}
@@ -99,20 +98,20 @@ length-told sh s h v r g p q =
 -- ---- the answers
 
 module _ (pairs s : List ℕ) where
-  pub sized-stop : (x : Refusal) → segment_verdict v3 pairs s ≡ Stopped x → Refused x ≡ sized_under pairs s
+  pub sized-stop : (x : Refusal) → segment_verdict v3 pairs s ≡ Err x → Err x ≡ sized_under pairs s
   unfolding sized_under
   sized-stop x e = rw e
 
-  module _ (a : segment_verdict v3 pairs s ≡ Accepted) (n : ℕ) (e : n ≡ length (tidy_form v3 (meaning_of v3 s))) where
-    pub sized-large : 1073741824 < n → Refused (refusal Large 0) ≡ sized_under pairs s
+  module _ (a : segment_verdict v3 pairs s ≡ accepted) (n : ℕ) (e : n ≡ length (tidy_form v3 (meaning_of v3 s))) where
+    pub sized-large : 1073741824 < n → Err (refusal Large 0) ≡ sized_under pairs s
     unfolding sized_under
     sized-large l = rw (a, ← e) (simp tests)
 
-    pub sized-done : n ≤ 1073741824 → Done n ≡ sized_under pairs s
+    pub sized-done : n ≤ 1073741824 → Ok n ≡ sized_under pairs s
     unfolding sized_under
     sized-done l = rw (a, ← e) (simp tests)
 
-  pub table-bad : good_table pairs ≡ false → written_answer (Refused (refusal TableWrong 0)) ≡ tidy_length_of pairs s
+  pub table-bad : good_table pairs ≡ false → written_answer (Err (refusal TableWrong 0)) ≡ tidy_length_of pairs s
   unfolding tidy_length_of tidy_sized checked table_verdict
   table-bad e = rw e
 

@@ -2,12 +2,10 @@
 --   Summed       the bytes of the records' digests, and their extents
 --   sized_under   what is answered under a good table
 -- Assumes nothing: these are definitions.
-use Rattle.std.specs.Prelude.{ℕ, ◌≤◌, ◌≡◌, List, leb, length}
+use Rattle.std.specs.Prelude.{ℕ, ◌≤◌, ◌≡◌, List, leb, length, Ok}
 use Rattle.answer.specs.declared.Rule.TheVariants.{Large}
-use Rattle.answer.specs.declared.Written.{Written}
-use Rattle.answer.specs.declared.Written.TheVariants.{Done, Refused}
-use Rattle.answer.specs.Rules.{must, ◌then◌, after}
-use Rattle.answer.specs.Answers.{refusal}
+use Rattle.answer.specs.Rules.{must, ◌then◌}
+use Rattle.answer.specs.Answers.{refusal, Written}
 use Rattle.segment.specs.declared.header.Header.{Header}
 use Rattle.segment.specs.declared.shape.Shape.{Shape}
 use Rattle.segment.specs.Format.{v3, file_limit}
@@ -26,4 +24,4 @@ pub record Summed (sh : Shape) (s : List ℕ) (h : Header) (r : Sums) : Type 0 w
 unfoldable pub sized_under : List ℕ → List ℕ → Written
 sized_under pairs s =
     let n = length (tidy_form v3 (meaning_of v3 s)) in
-    after Refused (segment_verdict v3 pairs s then must (leb n file_limit) (refusal Large 0)) (Done n)
+    (segment_verdict v3 pairs s then must (leb n file_limit) (refusal Large 0)) then Ok n

@@ -10,13 +10,14 @@ ghost use Rattle.segment.specs.Tidy.{tidy_form, tidy_length_of};
 ghost use Rattle.check_book.specs.Readable.{Readable};
 ghost use Rattle.tidy_length.specs.Sums.{Summed, sized_under};
 
-use answer::{Refusal, Rule, Verdict, Written};
+use answer::{Refusal, Rule};
 use checksum::Engine;
 use segment::extent::Extent;
 use segment::footer::Footer;
 use segment::header::Header;
 use segment::record;
 use segment::shape::Shape;
+use table::Table;
 
 // What the records come to: how many bytes their digests are, and how many extents they have.
 #[derive(Clone, Copy)]
@@ -32,12 +33,10 @@ fn sum_records(sh: Shape, seg: &[u8], h: Header) -> Sums
     let first = h.records_offset;
     let mut digests: u64 = 0;
     let mut extents: u64 = 0;
-    let mut k = 0;
-    while k < h.record_count as usize {
+    for k in 0..h.record_count as usize {
         let r = record::nth_record(sh, seg, first, k);
         digests += r.digest_length as u64;
         extents += r.extent_count as u64;
-        k += 1;
     }
     Sums { digests, extents }
 }
@@ -52,30 +51,23 @@ fn length_of(sh: Shape, seg: &[u8], h: Header) -> u64
 }
 
 // Everything but the table.
-fn length_under(by: Engine, pairs: &[u64], seg: &[u8]) -> Written
+fn length_under(by: Engine, pairs: &[u64], seg: &[u8]) -> Result<u64, Refusal>
     requires { good_table pairs.now ≡ true }
     ensures { result ≡ sized_under pairs.now seg.now }
 {
-    match check_segment::check_segment(by, pairs, seg) {
-        Verdict::Refused(x) => {
-            return Written::Refused(x);
-        }
-        Verdict::Accepted => {}
-    }
+    check_segment::check_segment(by, pairs, seg)?;
     let n = length_of(Shape::V3, seg, Header::of(seg));
     if segment::LIMIT < n {
-        return Written::Refused(Refusal(Rule::Large, 0));
+        return Err(Refusal(Rule::Large, 0));
     }
-    Written::Done(n)
+    Ok(n)
 }
 
-pub fn tidy_length_by(by: Engine, pairs: &[u64], seg: &[u8]) -> Written
+pub fn tidy_length_by(by: Engine, pairs: &[u64], seg: &[u8]) -> Result<u64, Refusal>
     ensures { written_answer result ≡ tidy_length_of pairs.now seg.now }
 {
-    if !table::good(pairs) {
-        return Written::Refused(Refusal(Rule::Table, 0));
-    }
-    let numbers = table::copied(pairs);
-    let count = pairs.len();
-    length_under(by, &numbers[..count], seg)
+    let Some(table) = Table::new(pairs) else {
+        return Err(Refusal(Rule::Table, 0));
+    };
+    length_under(by, table.pairs(), seg)
 }

@@ -4,8 +4,7 @@ use mathlib.Core.Path.{◌≡◌, sym, ap, ap₂, ◌∙◌}
 use mathlib.Core.List.{List}
 use Prim.Native.Nat.{ℕ}
 use denote.Ref.{Bor}
-use Rattle.segment.specs.declared.step.Step.{Step}
-use Rattle.segment.specs.Walk.{next_place, step_answer, step_of}
+use Rattle.segment.specs.Walk.{next_place, step_answer, step_of, Step}
 use Rattle.segment.proofs.StepSettled.{step-settled}
 use Rattle.walk.specs.declared.Walker.{Walker}
 use Rattle.walk.specs.Taken.{Taken}

@@ -1,8 +1,7 @@
 -- What a step of the walk promises of a walker under a table.
 -- Assumes nothing.
 use Rattle.std.specs.Prelude.{◌≡◌, List, ℕ}
-use Rattle.segment.specs.declared.step.Step.{Step}
-use Rattle.segment.specs.Walk.{next_place, step_answer, step_of}
+use Rattle.segment.specs.Walk.{next_place, step_answer, step_of, Step}
 use Rattle.walk.specs.declared.Walker.{Walker}
 
 -- the answer is the step at the walker's place; after it the walker has the same segment, and the place after the answer

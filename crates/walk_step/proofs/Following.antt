@@ -6,10 +6,10 @@ use mathlib.Core.Path.{◌≡◌, refl, ap, ◌∙◌}
 use mathlib.Core.List.{List, ◌∷◌, map}
 use native.Mathlib.Omega.{arith}
 use lib.ListN.{replicate}
+use Rattle.std.specs.Prelude.{Err, None, Ok, Some}
+use Rattle.segment.specs.Walk.{Step}
+use Rattle.answer.specs.Rules.{accepted}
 use Rattle.answer.specs.declared.Refusal.{Refusal}
-use Rattle.answer.specs.declared.Verdict.TheVariants.{Accepted, Refused as Stopped}
-use Rattle.segment.specs.declared.step.Step.{Step}
-use Rattle.segment.specs.declared.step.Step.TheVariants.{Row, Done, Refused}
 use Rattle.segment.specs.Format.{v3, header_of, record_count, record_no}
 use Rattle.segment.specs.Check.{checked}
 use Rattle.lists.specs.Lists.{count_from}
@@ -21,24 +21,24 @@ module _ (pairs s : List ℕ) where
   abbrev pub Steps : ℕ → ℕ → List Step → ℕ → Type 0
   Steps k n ts p = (steps_from pairs s k n ≡ ts) × (place_after pairs s k n ≡ p)
 
-  pub refused-stays : (x : Refusal) → checked pairs s ≡ Stopped x → (k n : ℕ) → Steps k n (replicate n (Refused x)) k
+  pub refused-stays : (x : Refusal) → checked pairs s ≡ Err x → (k n : ℕ) → Steps k n (replicate n (Err x)) k
   unfolding steps_from place_after
   refused-stays x e k zero = (refl, refl)
   refused-stays x e k (suc n) =
       let more = refused-stays x e k n in
-      rw ((step-refused-iff pairs s k x).1 e) (ap (◌∷◌ (Refused x)) more.0, more.1)
+      rw ((step-refused-iff pairs s k x).1 e) (ap (◌∷◌ (Err x)) more.0, more.1)
 
-  module _ (e : checked pairs s ≡ Accepted) where
-    pub done-stays : (k n : ℕ) → record_count (header_of s) ≤ k → Steps k n (replicate n Done) k
+  module _ (e : checked pairs s ≡ accepted) where
+    pub done-stays : (k n : ℕ) → record_count (header_of s) ≤ k → Steps k n (replicate n (Ok None)) k
     unfolding steps_from place_after
     done-stays k zero l = (refl, refl)
     done-stays k (suc n) l =
         let more = done-stays k n l in
-        rw ((step-done-iff pairs s k).1 (e, l)) (ap (◌∷◌ Done) more.0, more.1)
+        rw ((step-done-iff pairs s k).1 (e, l)) (ap (◌∷◌ (Ok None)) more.0, more.1)
 
     -- a step that gives record k
     abbrev pub row_step : ℕ → Step
-    row_step k = Row (record_no v3 s (header_of s) k)
+    row_step k = Ok (Some (record_no v3 s (header_of s) k))
 
     rows-follow : (k n : ℕ) → k + n ≤ record_count (header_of s) → Steps k n (map row_step (count_from k n)) (k + n)
     unfolding steps_from place_after count_from

@@ -4,8 +4,7 @@
 --   place_after   where the walk is after n steps from a place
 -- Assumes nothing: these are definitions.
 use Rattle.std.specs.Prelude.{ℕ, zero, suc, List, [], ◌∷◌}
-use Rattle.segment.specs.declared.step.Step.{Step}
-use Rattle.segment.specs.Walk.{stepped, next_place}
+use Rattle.segment.specs.Walk.{stepped, next_place, Step}
 use Rattle.walk_step.specs.declared.Turn.{Turn}
 
 abbrev pub turn_of : List ℕ → List ℕ → ℕ → Turn

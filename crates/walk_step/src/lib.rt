@@ -6,37 +6,32 @@ ghost use Rattle.std.specs.Prelude.{◌≡◌};
 ghost use Rattle.segment.specs.Walk.{stepped};
 ghost use Rattle.walk_step.specs.Steps.{turn_of};
 
-use answer::Verdict;
+use answer::Refusal;
 use checksum::Engine;
 use segment::header::Header;
 use segment::record;
+use segment::record::Record;
 use segment::shape::Shape;
-use segment::step::Step;
 
 // What a step answers, and the place after it.
 #[derive(Clone, Copy)]
 pub struct Turn {
-    pub step: Step,
+    pub step: Result<Option<Record>, Refusal>,
     pub at: usize,
 }
 
 // The record at a place of an accepted segment.
-fn step_at(by: Engine, pairs: &[u64], segment: &[u8], at: usize) -> Step
+fn step_at(by: Engine, pairs: &[u64], segment: &[u8], at: usize) -> Result<Option<Record>, Refusal>
     ensures { result ≡ stepped pairs.now segment.now at }
 {
-    match check_segment::check_by(by, pairs, segment) {
-        Verdict::Refused(r) => {
-            return Step::Refused(r);
-        }
-        Verdict::Accepted => {}
-    }
+    check_segment::check_by(by, pairs, segment)?;
     let h = Header::of(segment);
     let first = h.records_offset;
     let count = h.record_count as usize;
     if count <= at {
-        return Step::Done;
+        return Ok(None);
     }
-    Step::Row(record::nth_record(Shape::V3, segment, first, at))
+    Ok(Some(record::nth_record(Shape::V3, segment, first, at)))
 }
 
 // A step with the place after it: one on after a record, else the same.
@@ -45,8 +40,8 @@ pub fn turn_by(by: Engine, pairs: &[u64], segment: &[u8], at: usize) -> Turn
 {
     let step = step_at(by, pairs, segment, at);
     match step {
-        Step::Row(_) => Turn { step, at: at + 1 },
-        Step::Done => Turn { step, at },
-        Step::Refused(_) => Turn { step, at },
+        Ok(Some(_)) => Turn { step, at: at + 1 },
+        Ok(None) => Turn { step, at },
+        Err(_) => Turn { step, at },
     }
 }

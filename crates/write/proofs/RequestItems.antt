@@ -6,11 +6,10 @@ use mathlib.Core.Bool.{true, false}
 use mathlib.Core.List.{List}
 use native.Mathlib.Omega.{arith}
 use lib.ListN.{length}
-use Rattle.answer.specs.declared.Written.{Written}
-use Rattle.answer.specs.declared.Written.TheVariants.{Refused as NotWritten}
+use Rattle.std.specs.Prelude.{Err}
+use Rattle.answer.specs.Rules.{accepted}
 use Rattle.answer.specs.declared.Rule.TheVariants.{Table as TableWrong}
-use Rattle.answer.specs.Answers.{refusal}
-use Rattle.answer.specs.declared.Verdict.TheVariants.{Accepted}
+use Rattle.answer.specs.Answers.{refusal, Written}
 use Rattle.segment.specs.declared.header.Heading.{Heading}
 use Rattle.segment.specs.declared.shape.Shape.{Shape}
 use Rattle.segment.specs.Format.{v3}
@@ -28,7 +27,7 @@ use Rattle.put_form.specs.Emit.{EmittedAfter}
 use Rattle.put_tidy.proofs.EmittedAfter.{emitted-under, emitted-outcome}
 use Rattle.write.specs.Seal.{asked}
 
-module _ (sh : Shape) (w : Shaped sh) (pairs bloom entries digests extents : List ℕ) (g : good_table pairs ≡ true) (a : request_rules sh pairs (length bloom) entries digests extents ≡ Accepted) where
+module _ (sh : Shape) (w : Shaped sh) (pairs bloom entries digests extents : List ℕ) (g : good_table pairs ≡ true) (a : request_rules sh pairs (length bloom) entries digests extents ≡ accepted) where
   entry-line : (k : ℕ) → k < entry_count entries → Line Entries digests entries extents k
   unfolding item_entry Held item_total extents_of_entry item_extents
   entry-line k h =
@@ -69,7 +68,7 @@ same-form sh t bloom entries digests extents = refl
 -- ---- the table before the rest
 
 module _ (pairs : List ℕ) (q : Request) (out : List ℕ) where
-  pub table-bad : good_table pairs ≡ false → outcome (NotWritten (refusal TableWrong 0)) out ≡ write_of pairs q out
+  pub table-bad : good_table pairs ≡ false → outcome (Err (refusal TableWrong 0)) out ≡ write_of pairs q out
   unfolding write_of wrote settled request_verdict table_verdict
   table-bad e = rw e
 

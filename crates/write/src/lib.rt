@@ -9,12 +9,15 @@ ghost use Rattle.segment.specs.Write.{request_rules, requested, write_of};
 ghost use Rattle.put_form.specs.Emit.{EmittedAfter};
 ghost use Rattle.write.specs.Seal.{asked};
 
-use answer::{Refusal, Rule, Verdict, Written};
+use answer::{Refusal, Rule};
 use checksum::Engine;
-use key::Kind;
+use key::Items;
+use put_form::Frame;
+use put_item::Source;
 use segment::entry::Entry;
 use segment::header::Heading;
 use segment::shape::Shape;
+use table::Table;
 
 // Everything but the table.
 fn write_under(
@@ -26,32 +29,25 @@ fn write_under(
     digests: &[u8],
     extents: &[u64],
     out: &mut [u8],
-) -> Written
+) -> Result<u64, Refusal>
     requires { good_table pairs.now ≡ true }
     ensures { EmittedAfter
         (request_rules v3 pairs.now (length bloom.now) entries.now digests.now extents.now)
         (tidy_form v3 (requested (asked t bloom.now entries.now digests.now extents.now)))
         out.old out.new result }
 {
-    match write_request::check_request(Shape::V3, pairs, bloom.len(), entries, digests, extents) {
-        Verdict::Refused(x) => {
-            return Written::Refused(x);
-        }
-        Verdict::Accepted => {}
-    }
-    let n = entries.len() / Entry::SIZE;
-    put_tidy::put_tidy(
+    write_request::check_request(Shape::V3, pairs, bloom.len(), entries, digests, extents)?;
+    let frame = Frame {
         by,
-        Shape::V3,
-        t,
+        shape: Shape::V3,
+        heading: t,
         bloom,
-        Kind::Entries,
-        digests,
-        entries,
+    };
+    let source = Source {
+        items: Items::entries(digests, entries),
         extents,
-        n,
-        out,
-    )
+    };
+    put_tidy::put_tidy(frame, source, entries.len() / Entry::SIZE, out)
 }
 
 // The entries are nine numbers each, in the order of `segment::entry::Entry`, the extents three: block, offset, length. A refused
@@ -65,24 +61,13 @@ pub fn write_by(
     digests: &[u8],
     extents: &[u64],
     out: &mut [u8],
-) -> Written
+) -> Result<u64, Refusal>
     ensures { outcome result out.new ≡ write_of pairs.now
         (asked t bloom.now entries.now digests.now extents.now)
         out.old }
 {
-    if !table::good(pairs) {
-        return Written::Refused(Refusal(Rule::Table, 0));
-    }
-    let numbers = table::copied(pairs);
-    let count = pairs.len();
-    write_under(
-        by,
-        &numbers[..count],
-        t,
-        bloom,
-        entries,
-        digests,
-        extents,
-        out,
-    )
+    let Some(table) = Table::new(pairs) else {
+        return Err(Refusal(Rule::Table, 0));
+    };
+    write_under(by, table.pairs(), t, bloom, entries, digests, extents, out)
 }

@@ -10,8 +10,7 @@ use mathlib.Core.List.{List}
 use native.Mathlib.Decide.{ℕ_discrete}
 use native.Mathlib.Omega.{arith}
 use borrow.Author.Tests.{eq-eqb, ne_eqb}
-use Rattle.answer.specs.declared.Verdict.TheVariants.{Accepted}
-use Rattle.answer.specs.Rules.{first_over}
+use Rattle.answer.specs.Rules.{first_over, accepted}
 use Rattle.lists.proofs.Tests.{or-iff}
 use Rattle.answer.proofs.Order.{then-accepted, rows, first-accepted}
 use Rattle.segment.specs.declared.entry.Entry.{Entry}
@@ -41,7 +40,7 @@ use Rattle.segment.specs.Asked.{MarksAsked, ListsAsked, PlacesAsked, TotalAsked,
 
 -- ---- 7
 
-pub marks-book : (e : Entry) (k : ℕ) → entry_marks e k ≡ Accepted ↔ MarksAsked e
+pub marks-book : (e : Entry) (k : ℕ) → entry_marks e k ≡ accepted ↔ MarksAsked e
 unfolding entry_marks
 marks-book e k =
     simp (or-iff, rows) (
@@ -57,19 +56,19 @@ marks-book e k =
 
 -- ---- 15
 
-pub lists-book : (digests extents : List ℕ) (e : Entry) (k : ℕ) → entry_lists digests extents e k ≡ Accepted ↔ ListsAsked digests extents e
+pub lists-book : (digests extents : List ℕ) (e : Entry) (k : ℕ) → entry_lists digests extents e k ≡ accepted ↔ ListsAsked digests extents e
 unfolding entry_lists
 lists-book digests extents e k = simp rows (omega arith)
 
 -- ---- 8
 
-pub digest-book : (pairs : List ℕ) (e : Entry) (k : ℕ) → entry_digest pairs e k ≡ Accepted ↔ allows pairs e.hash_id e.digest_length ≡ true
+pub digest-book : (pairs : List ℕ) (e : Entry) (k : ℕ) → entry_digest pairs e k ≡ accepted ↔ allows pairs e.hash_id e.digest_length ≡ true
 unfolding entry_digest
 digest-book pairs e k = simp rows Iff.rfl
 
 -- ---- 9
 
-pub places-book : (e : Entry) (k : ℕ) → entry_places e k ≡ Accepted ↔ PlacesAsked e
+pub places-book : (e : Entry) (k : ℕ) → entry_places e k ≡ accepted ↔ PlacesAsked e
 unfolding entry_places
 places-book e k =
     by_cases (ℕ_discrete e.gone 1)
@@ -90,14 +89,14 @@ places-book e k =
 
 -- ---- 10
 
-pub total-book : (sh : Shape) (es : List Extent) (k : ℕ) → entry_total sh es k ≡ Accepted ↔ TotalAsked sh es
+pub total-book : (sh : Shape) (es : List Extent) (k : ℕ) → entry_total sh es k ≡ accepted ↔ TotalAsked sh es
 unfolding entry_total
 total-book sh es k = simp rows (λ a. record { fits = a.0; sum = a.1 }, λ m. (m.fits, m.sum))
 
 -- ---- one entry, and each of them
 
 module _ (sh : Shape) (pairs : List ℕ) where
-  pub entry-book : (digests extents : List ℕ) (e : Entry) (k : ℕ) → entry_rules sh pairs digests extents e k ≡ Accepted ↔ Asked sh pairs digests extents e
+  pub entry-book : (digests extents : List ℕ) (e : Entry) (k : ℕ) → entry_rules sh pairs digests extents e k ≡ accepted ↔ Asked sh pairs digests extents e
   unfolding entry_rules
   entry-book digests extents e k =
       simp (then-accepted, marks-book, lists-book, digest-book, places-book, total-book) (
@@ -107,13 +106,13 @@ module _ (sh : Shape) (pairs : List ℕ) where
 
   module _ (entries digests extents : List ℕ) where
     pub entries-book : (n : ℕ)
-        → first_over n (entry_verdict sh pairs entries digests extents) ≡ Accepted ↔ ((k : ℕ) → k < n → Asked sh pairs digests extents (entry_no entries k))
+        → first_over n (entry_verdict sh pairs entries digests extents) ≡ accepted ↔ ((k : ℕ) → k < n → Asked sh pairs digests extents (entry_no entries k))
     unfolding entry_verdict
     entries-book n = simp (first-accepted, entry-book) Iff.rfl
 
     -- ---- the whole request
 
-    pub request-book : (bloom : ℕ) → request_rules sh pairs bloom entries digests extents ≡ Accepted ↔ RequestAsked sh pairs bloom entries digests extents
+    pub request-book : (bloom : ℕ) → request_rules sh pairs bloom entries digests extents ≡ accepted ↔ RequestAsked sh pairs bloom entries digests extents
     unfolding request_rules
     request-book bloom =
         simp (rows, entries-book, keys-book) (
@@ -140,6 +139,6 @@ module _ (sh : Shape) (pairs entries digests extents : List ℕ) where
   entries-stand each = record { each = λ k l. entry-stands k l (each k l) }
 
   -- so it is where a request is accepted
-  module _ (bloom : ℕ) (a : request_rules sh pairs bloom entries digests extents ≡ Accepted) where
+  module _ (bloom : ℕ) (a : request_rules sh pairs bloom entries digests extents ≡ accepted) where
     pub request-items : Items Entries digests entries (entry_count entries)
     request-items = entries-stand ((request-book sh pairs entries digests extents bloom).0 a).each

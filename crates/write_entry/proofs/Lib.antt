@@ -1,2 +1,1 @@
-pub mod EntryRows
 pub mod Adding

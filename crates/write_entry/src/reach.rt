@@ -7,18 +7,13 @@ ghost use Rattle.write_entry.specs.Kept.{lists_kept};
 fn within(start: u64, count: u64, end: u64) -> bool
     ensures { result ≡ leb (start + count) end }
 {
-    if end < start {
-        return false;
-    }
-    count <= end - start
+    start <= end && count <= end - start
 }
 
 // Of an entry's digest among `bytes` digest bytes, and of its extents among the `listed` ones.
+#[tactic(auto, unfolding(crate::specs::Kept::lists_kept))]
 pub fn lists_kept(start: u64, size: u64, bytes: u64, first: u64, count: u64, listed: u64) -> bool
     ensures { result ≡ lists_kept start size bytes first count listed }
 {
-    if within(start, size, bytes) {
-        return within(first, count, listed);
-    }
-    false
+    within(start, size, bytes) && within(first, count, listed)
 }

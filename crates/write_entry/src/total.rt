@@ -7,16 +7,11 @@ ghost use Rattle.write_entry.specs.Kept.{total_kept};
 use segment::extent::Extent;
 
 // Whether an extent's offset and length fit their fields, and it lies inside its block.
+#[tactic(auto, using(std::proofs::lemmas::Bool::Decides::nat_tests))]
 fn extent_fits(offset: u64, size: u64) -> bool
     ensures { result ≡ (ltb offset 4294967296 && (ltb size 4294967296 && leb (offset + size) 4294967296)) }
 {
-    if 4294967296 <= offset {
-        return false;
-    }
-    if 4294967296 <= size {
-        return false;
-    }
-    offset + size <= 4294967296
+    offset < 4294967296 && size < 4294967296 && offset + size <= 4294967296
 }
 
 // Of `count` extents of a list, from `first` on.
@@ -25,15 +20,13 @@ pub fn total_kept(extents: &[u64], first: u64, count: u64, limit: u64) -> bool
     ensures { result ≡ total_kept (extents_from extents.now first count) limit }
 {
     let mut sum: u64 = 0;
-    let mut i: u64 = 0;
-    while i < count {
+    for i in 0..count {
         let at = Extent::LISTED * (first + i) as usize;
         let size = extents[at + 2];
         if !extent_fits(extents[at + 1], size) {
             return false;
         }
         sum += size;
-        i += 1;
     }
     sum <= limit
 }

@@ -8,12 +8,11 @@ use native.Mathlib.Omega.{arith}
 use borrow.Author.Tests.{leb-true, ltb-true, eqb-true}
 use lib.Dec.{leb, ltb, eqb}
 use lib.ListN.{length}
+use Rattle.std.specs.Prelude.{Err}
 use Rattle.answer.specs.declared.Refusal.{Refusal}
 use Rattle.answer.specs.declared.Rule.TheVariants.{LayoutBloom, Record, Digest, Extents, Total, List as ListEnd, Large}
 use Rattle.answer.specs.Answers.{refusal}
-use Rattle.answer.specs.declared.Verdict.{Verdict}
-use Rattle.answer.specs.declared.Verdict.TheVariants.{Accepted, Refused}
-use Rattle.answer.specs.Rules.{must, ◌then◌, first_over}
+use Rattle.answer.specs.Rules.{must, ◌then◌, first_over, Verdict, accepted}
 use Rattle.lists.proofs.Tests.{tests, by-test, and-iff, was-false}
 use Rattle.answer.proofs.Order.{first_more, first-refused}
 use Rattle.table.specs.Table.{allows}
@@ -86,20 +85,20 @@ pub record InFive (v : Verdict) (k : ℕ) (marks lists allowed places total : Bo
       ≡ (must marks (refusal Record k) then must lists (refusal ListEnd k) then must allowed (refusal Digest k) then must places (refusal Extents k) then must total (refusal Total k))
 
 module _ {v : Verdict} {k : ℕ} {m l d p t : Bool} (f : InFive v k m l d p t) where
-  pub lists-stop : m ≡ true → l ≡ false → Refused (refusal ListEnd k) ≡ v
+  pub lists-stop : m ≡ true → l ≡ false → Err (refusal ListEnd k) ≡ v
   lists-stop a b = rw (f.told, a, b)
 
-  pub digest-stops : m ≡ true → l ≡ true → d ≡ false → Refused (refusal Digest k) ≡ v
+  pub digest-stops : m ≡ true → l ≡ true → d ≡ false → Err (refusal Digest k) ≡ v
   digest-stops a b c = rw (f.told, a, b, c)
 
-  pub places-stop : m ≡ true → l ≡ true → d ≡ true → p ≡ false → Refused (refusal Extents k) ≡ v
+  pub places-stop : m ≡ true → l ≡ true → d ≡ true → p ≡ false → Err (refusal Extents k) ≡ v
   places-stop a b c g = rw (f.told, a, b, c, g)
 
   module _ (a : m ≡ true) (b : l ≡ true) (c : d ≡ true) (g : p ≡ true) where
-    pub total-stops : t ≡ false → Refused (refusal Total k) ≡ v
+    pub total-stops : t ≡ false → Err (refusal Total k) ≡ v
     total-stops h = rw (f.told, a, b, c, g, h)
 
-    pub all-kept : t ≡ true → Accepted ≡ v
+    pub all-kept : t ≡ true → accepted ≡ v
     all-kept h = rw (f.told, a, b, c, g, h)
 
 pub entry-five : (sh : Shape) (pairs digests extents : List ℕ) (e : Entry) (k : ℕ)
@@ -112,48 +111,48 @@ entry-five sh pairs digests extents e k = record { told = rw (marks-one e k, lis
 
 -- the first of them: its premises are as the call and the test leave them
 pub marks-stop : (sh : Shape) (pairs digests extents : List ℕ) (e : Entry) (k : ℕ) (t : Bool)
-    → t ≡ marks_kept e.visibility e.imported e.gone e.source → not t ≡ true → Refused (refusal Record k) ≡ entry_rules sh pairs digests extents e k
+    → t ≡ marks_kept e.visibility e.imported e.gone e.source → not t ≡ true → Err (refusal Record k) ≡ entry_rules sh pairs digests extents e k
 marks-stop sh pairs digests extents e k t p a = rw ((entry-five sh pairs digests extents e k).told, was-false p a)
 
 -- ---- each entry, and the request
 
 module _ (sh : Shape) (pairs entries digests extents : List ℕ) where
   -- a loop has come to k, and nothing is refused below it
-  module _ (k : ℕ) (p : first_over k (entry_verdict sh pairs entries digests extents) ≡ Accepted) where
+  module _ (k : ℕ) (p : first_over k (entry_verdict sh pairs entries digests extents) ≡ accepted) where
     module _ (e : Entry) (q : e ≡ entry_no entries k) (at : ℕ) (w : at ≡ entry_place k) where
       here : entry_verdict sh pairs entries digests extents k ≡ entry_rules sh pairs digests extents e at
       unfolding entry_verdict
       here = rw (q, w)
 
-      pub entry-refused : (n : ℕ) (x : Refusal) → k < n → entry_rules sh pairs digests extents e at ≡ Refused x
-          → Refused x ≡ first_over n (entry_verdict sh pairs entries digests extents)
+      pub entry-refused : (n : ℕ) (x : Refusal) → k < n → entry_rules sh pairs digests extents e at ≡ Err x
+          → Err x ≡ first_over n (entry_verdict sh pairs entries digests extents)
       entry-refused n x l f = sym (first-refused n k (entry_verdict sh pairs entries digests extents) x l p (here ∙ f))
 
-      pub entry-passed : entry_rules sh pairs digests extents e at ≡ Accepted → first_over (k + 1) (entry_verdict sh pairs entries digests extents) ≡ Accepted
+      pub entry-passed : entry_rules sh pairs digests extents e at ≡ accepted → first_over (k + 1) (entry_verdict sh pairs entries digests extents) ≡ accepted
       entry-passed f = first_more k (entry_verdict sh pairs entries digests extents) p (here ∙ f)
 
-    pub entries-passed : (n : ℕ) → k ≤ n → n ≤ k → Accepted ≡ first_over n (entry_verdict sh pairs entries digests extents)
+    pub entries-passed : (n : ℕ) → k ≤ n → n ≤ k → accepted ≡ first_over n (entry_verdict sh pairs entries digests extents)
     entries-passed n a b =
         let e : n ≡ k = omega arith in
         rw (e, p)
 
   module _ (bloom : ℕ) where
-    pub too_many : 65536 < entry_count entries → Refused (refusal Large 0) ≡ request_rules sh pairs bloom entries digests extents
+    pub too_many : 65536 < entry_count entries → Err (refusal Large 0) ≡ request_rules sh pairs bloom entries digests extents
     unfolding request_rules
     too_many a = simp tests
 
     module _ (a : entry_count entries ≤ 65536) where
-      pub bloom-odd : (bloom % 8 ≡ 0 → ⊥) → Refused (refusal LayoutBloom 0) ≡ request_rules sh pairs bloom entries digests extents
+      pub bloom-odd : (bloom % 8 ≡ 0 → ⊥) → Err (refusal LayoutBloom 0) ≡ request_rules sh pairs bloom entries digests extents
       unfolding request_rules
       bloom-odd b = simp tests
 
       module _ (b : bloom % 8 ≡ 0) where
-        pub entries-stop : (x : Refusal) → first_over (entry_count entries) (entry_verdict sh pairs entries digests extents) ≡ Refused x
-            → Refused x ≡ request_rules sh pairs bloom entries digests extents
+        pub entries-stop : (x : Refusal) → first_over (entry_count entries) (entry_verdict sh pairs entries digests extents) ≡ Err x
+            → Err x ≡ request_rules sh pairs bloom entries digests extents
         unfolding request_rules
         entries-stop x f = simp (tests, f)
 
-        pub keys-told : {v : Verdict} → first_over (entry_count entries) (entry_verdict sh pairs entries digests extents) ≡ Accepted
+        pub keys-told : {v : Verdict} → first_over (entry_count entries) (entry_verdict sh pairs entries digests extents) ≡ accepted
             → v ≡ first_over (entry_count entries) (fresh_key (item_key Entries digests entries) (item_place Entries)) → v ≡ request_rules sh pairs bloom entries digests extents
         unfolding request_rules
         keys-told f g = g ∙ same_keys entries digests (entry_count entries) ∙ simp (tests, f)

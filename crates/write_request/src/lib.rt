@@ -6,8 +6,8 @@ ghost use Rattle.std.specs.Prelude.{◌≡◌};
 ghost use Rattle.answer.specs.Rules.{first_over};
 ghost use Rattle.segment.specs.Write.{entry_count, entry_rules, entry_verdict, request_rules};
 
-use answer::{Refusal, Rule, Verdict};
-use key::Kind;
+use answer::{Refusal, Rule};
+use key::Items;
 use segment::entry;
 use segment::entry::Entry;
 use segment::extent::Extent;
@@ -26,13 +26,13 @@ fn check_entry(
     extents: &[u64],
     e: Entry,
     place: u64,
-) -> Verdict
+) -> Result<(), Refusal>
     ensures { result ≡ entry_rules sh pairs.now digests.now extents.now e place }
 {
     let bytes = digests.len() as u64;
     let count = (extents.len() / Extent::LISTED) as u64;
     if !write_entry::marks_kept(e.visibility, e.imported, e.gone, e.source) {
-        return Verdict::Refused(Refusal(Rule::Record, place));
+        return Err(Refusal(Rule::Record, place));
     }
     if !lists_kept(
         e.digest_start,
@@ -42,18 +42,18 @@ fn check_entry(
         e.extent_count,
         count,
     ) {
-        return Verdict::Refused(Refusal(Rule::List, place));
+        return Err(Refusal(Rule::List, place));
     }
     if !table::allows(pairs, e.hash_id, e.digest_length) {
-        return Verdict::Refused(Refusal(Rule::Digest, place));
+        return Err(Refusal(Rule::Digest, place));
     }
     if !write_entry::places_kept(e.gone, e.first_extent, e.extent_count) {
-        return Verdict::Refused(Refusal(Rule::Extents, place));
+        return Err(Refusal(Rule::Extents, place));
     }
     if !total_kept(extents, e.first_extent, e.extent_count, sh.total_limit) {
-        return Verdict::Refused(Refusal(Rule::Total, place));
+        return Err(Refusal(Rule::Total, place));
     }
-    Verdict::Accepted
+    Ok(())
 }
 
 // Every whole entry of the list.
@@ -63,29 +63,21 @@ fn check_entries(
     entries: &[u64],
     digests: &[u8],
     extents: &[u64],
-) -> Verdict
+) -> Result<(), Refusal>
     ensures { result ≡ first_over (entry_count entries.now)
         (entry_verdict sh pairs.now entries.now digests.now extents.now) }
 {
-    let count = entries.len() / Entry::SIZE;
-    let mut k = 0;
-    while k < count {
-        match check_entry(
+    for k in 0..entries.len() / Entry::SIZE {
+        check_entry(
             sh,
             pairs,
             digests,
             extents,
             Entry::at(entries, k),
             entry::place_of(k),
-        ) {
-            Verdict::Refused(x) => {
-                return Verdict::Refused(x);
-            }
-            Verdict::Accepted => {}
-        }
-        k += 1;
+        )?;
     }
-    Verdict::Accepted
+    Ok(())
 }
 
 // `bloom` is the number of bloom bytes; which they are does not matter here.
@@ -96,24 +88,20 @@ pub fn check_request(
     entries: &[u64],
     digests: &[u8],
     extents: &[u64],
-) -> Verdict
+) -> Result<(), Refusal>
     ensures { result ≡ request_rules sh pairs.now bloom entries.now digests.now extents.now }
 {
     let n = entries.len() / Entry::SIZE;
     if MOST < n {
-        return Verdict::Refused(Refusal(Rule::Large, 0));
+        return Err(Refusal(Rule::Large, 0));
     }
     if bloom % 8 != 0 {
-        return Verdict::Refused(Refusal(Rule::LayoutBloom, 0));
+        return Err(Refusal(Rule::LayoutBloom, 0));
     }
-    match check_entries(sh, pairs, entries, digests, extents) {
-        Verdict::Refused(x) => {
-            return Verdict::Refused(x);
-        }
-        Verdict::Accepted => {}
+    check_entries(sh, pairs, entries, digests, extents)?;
+    let items = Items::entries(digests, entries);
+    if key_ascending::keys_climb(items, n) {
+        return Ok(());
     }
-    if key_ascending::keys_climb(Kind::Entries, digests, entries, n) {
-        return Verdict::Accepted;
-    }
-    key_duplicate::check_keys(Kind::Entries, digests, entries, n)
+    key_duplicate::check_keys(items, n)
 }

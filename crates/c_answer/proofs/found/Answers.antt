@@ -5,5 +5,5 @@ use Rattle.c_answer.proofs.found.Goals as goal
 pub returns-in-None : goal.returns-in-None
 returns-in-None c = of_none _ _ _ _ _ _ _ c.in-None.is
 
-pub returns-in-Domain : goal.returns-in-Domain
-returns-in-Domain c = of-domain _ _ _ _ _ _ _ c.in-Domain.from c.in-Domain.is
+pub returns-in-Some : goal.returns-in-Some
+returns-in-Some c = of-domain _ _ _ _ _ _ _ c.in-Some.from c.in-Some.is

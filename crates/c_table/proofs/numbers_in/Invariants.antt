@@ -1,11 +1,7 @@
 -- `c_table::numbers_in` meets its contract: after i turns i numbers stand in front of zeros.
-use Prim.Native.Nat.{◌-◌}
 use Rattle.table.proofs.Pairs.{Filling}
 use Rattle.c_table.specs.Lent.{taken}
 use Rattle.c_table.proofs.numbers_in.Given as goal
 
 abbrev pub invariant-loop-i : goal.invariant-loop-i
 invariant-loop-i l = Filling (taken l.bytes) l.table l.i
-
-abbrev pub decreases-loop-i : goal.decreases-loop-i
-decreases-loop-i l = l.count - l.i

@@ -18,14 +18,14 @@ sum_extents-requires c =
     let i = extents-inside _ _ _ p.inside ((extents-book _ _ _).0 p.place_value) in
     (omega arith, omega arith)
 
-pub returns-in-Past : goal.returns-in-Past
-returns-in-Past c = total-past _ _ _ _ (omega arith) (sym c.in-Past.is ∙ c.sum_extents.ensures)
+pub returns-in_default : goal.returns-in_default
+returns-in_default c = total-past _ _ _ _ (omega arith) (sym c.in_default.is ∙ c.sum_extents.ensures)
 
 pub returns-then-sh-sum : goal.returns-then-sh-sum
-returns-then-sh-sum c = total-great _ _ _ _ (omega arith) c.in-Of.sum (sym c.in-Of.is ∙ c.sum_extents.ensures) (omega arith)
+returns-then-sh-sum c = total-great _ _ _ _ (omega arith) c.in-Some.sum (sym c.in-Some.is ∙ c.sum_extents.ensures) (omega arith)
 
 pub returns-then-sum-r : goal.returns-then-sum-r
-returns-then-sum-r c = total-differs _ _ _ _ (omega arith) c.in-Of.sum (sym c.in-Of.is ∙ c.sum_extents.ensures) (omega arith) (omega arith)
+returns-then-sum-r c = total-differs _ _ _ _ (omega arith) c.in-Some.sum (sym c.in-Some.is ∙ c.sum_extents.ensures) (omega arith) (omega arith)
 
 pub returns : goal.returns
-returns c = total-accepted _ _ _ _ (omega arith) c.in-Of.sum (sym c.in-Of.is ∙ c.sum_extents.ensures) (omega arith) (omega arith)
+returns c = total-accepted _ _ _ _ (omega arith) c.in-Some.sum (sym c.in-Some.is ∙ c.sum_extents.ensures) (omega arith) (omega arith)

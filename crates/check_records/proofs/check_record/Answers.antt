@@ -1,10 +1,17 @@
--- `check_records::check_record` meets its contract: the first half that refuses.
-use mathlib.Core.Path.{sym, ◌∙◌}
-use Rattle.check_records.proofs.RecordsPass.{identity-stop, identity-pass}
+-- `check_records::check_record` meets its contract: the tables in the order of the rules.
+use borrow.Author.Rules.{rules}
+use Rattle.segment.specs.Check.{record_rules}
+use Rattle.check_extents.specs.ExtentRules.{slices_rules}
 use Rattle.check_records.proofs.check_record.Goals as goal
 
-pub returns-in-Refused : goal.returns-in-Refused
-returns-in-Refused c = identity-stop _ _ _ _ _ _ _ (sym c.check_identity.ensures ∙ c.in-Refused.is)
+pub returns-in_err-check_marks : goal.returns-in_err-check_marks
+unfolding record_rules
+returns-in_err-check_marks c = search rules
+
+pub returns-in_err-check_digest : goal.returns-in_err-check_digest
+unfolding record_rules
+returns-in_err-check_digest c = search rules
 
 pub returns : goal.returns
-returns c = identity-pass _ _ _ _ _ _ (sym c.check_identity.ensures ∙ c.in-Accepted.is) c.check_slices.ensures
+unfolding record_rules slices_rules
+returns c = search rules

@@ -1,12 +1,7 @@
 -- `crc64::crc64_plain_on` meets its contract: the whole run is the run from here over what is left.
-use mathlib.Core.Path.{◌≡◌}
-use Prim.Native.Nat.{◌-◌}
-use lib.ListN.{length}
-use Rattle.crc64.proofs.CrcLaws.{Reached}
+use Rattle.std.proofs.Common.{◌≡◌, drop}
+use Rattle.crc64.specs.Crc.{run}
 use Rattle.crc64.proofs.crc64_plain_on.Given as goal
 
-abbrev pub invariant-loop-i : goal.invariant-loop-i
-invariant-loop-i l = (l.i-end ≡ length l.s) × Reached l.register l.s l.c l.i
-
-abbrev pub decreases-loop-i : goal.decreases-loop-i
-decreases-loop-i l = l.i-end - l.i
+abbrev pub invariant-loop-b : goal.invariant-loop-b
+invariant-loop-b l = run l.register l.s ≡ run l.c (drop l.b-index l.s)

@@ -1,12 +1,11 @@
--- `crc64_fast::by_tables` meets its contract: the whole run is the run from here over what is left.
-use Prim.Native.Nat.{◌-◌}
-use lib.Bits.{bit_xor}
-use lib.ListN.{length}
-use Rattle.crc64.proofs.CrcLaws.{Reached}
+-- `crc64_fast::by_tables` meets its contract: the whole run is the run from here over what is left, which ends in the tail.
+use Rattle.std.proofs.Common.{◌≡◌, ◌-◌, ◌%◌, length, drop}
+use Rattle.std.specs.Int.Bits.{bit_xor}
+use Rattle.std.specs.Slice.Iter.{chunks_exact_rest, chunks_exact_size}
+use Rattle.crc64.specs.Crc.{run}
 use Rattle.crc64_fast.proofs.by_tables.Given as goal
 
-abbrev pub invariant-loop-i : goal.invariant-loop-i
-invariant-loop-i l = Reached l.register l.s (bit_xor l.c.low l.c.high) l.i
-
-abbrev pub decreases-loop-i : goal.decreases-loop-i
-decreases-loop-i l = length l.s - l.i
+abbrev pub invariant-loop-bytes : goal.invariant-loop-bytes
+invariant-loop-bytes l =
+    let rest = chunks_exact_rest l.bytes-iterator in
+    record { eight : chunks_exact_size l.bytes-iterator ≡ 8; same : run l.register l.s ≡ run (bit_xor l.c.low l.c.high) rest; tail : drop (length rest - length rest % 8) rest ≡ l.tail }

@@ -5,4 +5,4 @@ use Rattle.key.proofs.record_span.Goals as goal
 
 pub returns : goal.returns
 unfolding record_span record_of
-returns c = λ j. record { start = c.digest_offset-start.ensures j; size = c.digest_length-size.ensures j }
+returns c = λ j. record { start = c.read-start.ensures j; size = c.read-size.ensures j }

@@ -7,4 +7,4 @@ pub scan_keys-requires : goal.scan_keys-requires
 scan_keys-requires c = record { items = search rules; known = known-none _ _ }
 
 pub scan_keys-requires-2 : goal.scan_keys-requires-2
-scan_keys-requires-2 c = let a = c.args in record { items = c.requires.items; known = known-by-order a.kind a.bytes.now a.list.now _ _ c.known_fresh-known.ensures }
+scan_keys-requires-2 c = record { items = c.requires.items; known = known-by-order _ _ _ _ _ c.known_fresh-known.ensures }

@@ -1,13 +1,7 @@
 -- `key_equal::same_key` meets its contract: the three-way answer, told two ways.
-use borrow.Author.Rules.{rules}
-use Rattle.key_compare.proofs.Compare.{same-answers}
+use mathlib.Core.Path.{◌∙◌}
+use Rattle.key_compare.proofs.Compare.{told-same}
 use Rattle.key_equal.proofs.same_key.Goals as goal
 
-pub returns-in-Less : goal.returns-in-Less
-returns-in-Less c = search (same-answers, rules)
-
-pub returns-in-Equal : goal.returns-in-Equal
-returns-in-Equal c = search (same-answers, rules)
-
-pub returns-in-Greater : goal.returns-in-Greater
-returns-in-Greater c = search (same-answers, rules)
+pub returns : goal.returns
+returns c = c.is_eq.ensures ∙ told-same _ _ _ c.compare_items.ensures

@@ -1,11 +1,9 @@
 -- `key_hint::put_hints` meets its contract: k hints have been put.
-use Prim.Native.Nat.{◌-◌}
-use lib.ListN.{length}
-use Rattle.key_hint.proofs.Hinting.{Hinting}
+use Prim.Native.Nat.{ℕ, ◌<◌}
+use mathlib.Core.Path.{◌≡◌}
+use lib.ListN.{get_or}
+use Rattle.key_hint.specs.Lent.{hint_in}
 use Rattle.key_hint.proofs.put_hints.Given as goal
 
 abbrev pub invariant-loop-k : goal.invariant-loop-k
-invariant-loop-k l = Hinting l.kind l.bytes l.list l.initial.hints l.k l.hints
-
-abbrev pub decreases-loop-k : goal.decreases-loop-k
-decreases-loop-k l = length l.initial.hints - l.k
+invariant-loop-k l = (i : ℕ) → i < l.k → get_or l.hints i 0 ≡ hint_in l.items i

@@ -1,5 +1,4 @@
 -- `key_merge::merge` meets its contract: what is passed is merged, and the merge of the rest is still to be written.
-use Prim.Native.Nat.{◌-◌}
 use native.Mathlib.Omega.{arith}
 use borrow.Author.Rules.{rules}
 use Rattle.key_merge.proofs.Merging.{left-stands, right-stands, merge-starts, next-left, next-right, merged}

@@ -3,7 +3,7 @@ use Prim.Native.Nat.{◌+◌, ◌≤◌, ◌-◌}
 use mathlib.Core.Path.{◌≡◌}
 use mathlib.Core.List.{◌++◌}
 use lib.ListN.{length, take, drop}
-use Rattle.key.specs.ItemOrder.{item_leq}
+use Rattle.key.specs.Lent.{leq_in}
 use Rattle.lists.specs.Lists.{merge_by}
 use Rattle.key_merge.proofs.merge.Given as goal
 
@@ -12,7 +12,7 @@ invariant-loop-i l =
     (l.i ≤ length l.a)
     × (l.j ≤ length l.b)
     × (length l.out ≡ length l.initial.out)
-    × (merge_by (item_leq l.kind l.bytes l.list) l.a l.b ≡ take (l.i + l.j) l.out ++ merge_by (item_leq l.kind l.bytes l.list) (drop l.i l.a) (drop l.j l.b))
+    × (merge_by (leq_in l.keys.items) l.a l.b ≡ take (l.i + l.j) l.out ++ merge_by (leq_in l.keys.items) (drop l.i l.a) (drop l.j l.b))
 
 abbrev pub decreases-loop-i : goal.decreases-loop-i
 decreases-loop-i l = length l.a + length l.b - (l.i + l.j)

@@ -5,4 +5,4 @@ use Rattle.list_columns.proofs.put_named.Goals as goal
 
 pub returns : goal.returns
 returns c =
-    two c.put_word-p1.ensures c.put_number.ensures _ (omega arith)
+    two c.put_word.ensures c.put_number.ensures _ (omega arith)

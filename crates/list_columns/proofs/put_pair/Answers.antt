@@ -5,4 +5,4 @@ use Rattle.list_columns.proofs.put_pair.Goals as goal
 
 pub returns : goal.returns
 returns c =
-    two c.put_number-p1.ensures c.put_number.ensures 42 (omega arith)
+    two c.put_number.ensures c.put_number-2.ensures 42 (omega arith)

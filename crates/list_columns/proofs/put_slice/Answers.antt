@@ -7,4 +7,4 @@ use Rattle.list_columns.proofs.put_slice.Goals as goal
 pub returns : goal.returns
 unfolding slice_cells
 returns c =
-    two c.put_pair-p1.ensures c.put_number.ensures 63 (omega arith)
+    rw (c.from.ensures, c.from-2.ensures) at (two c.put_pair.ensures c.put_number.ensures 63 (omega arith))

@@ -13,14 +13,14 @@ pub returns-then-input-gt-MOST : goal.returns-then-input-gt-MOST
 returns-then-input-gt-MOST c = part-told _ _ _ _ _ _ _ (part-long _ _ _ (omega (arith, c.if-out-lt-LONGEST.false)) (omega (arith, c.if-input-gt-MOST.true))) (omega (arith, c.if-out-lt-LONGEST.false)) c.put_long.ensures
 
 pub fill-requires : goal.fill-requires
-fill-requires c = checked-readable _ _ (check-told _ _ _ c.check_by.ensures ∙ c.in-Accepted.is)
+fill-requires c = checked-readable _ _ (check-told _ _ _ c.check_by.ensures ∙ c.in-Ok.is)
 
-pub returns-in-Refused : goal.returns-in-Refused
-returns-in-Refused c = part-told _ _ _ _ _ _ _
-    (part-refused _ _ _ (omega (arith, c.if-out-lt-LONGEST.false)) (omega (arith, c.if-input-gt-MOST.false)) _ (check-told _ _ _ c.check_by.ensures ∙ c.in-Refused.is))
+pub returns-in-Err : goal.returns-in-Err
+returns-in-Err c = part-told _ _ _ _ _ _ _
+    (part-refused _ _ _ (omega (arith, c.if-out-lt-LONGEST.false)) (omega (arith, c.if-input-gt-MOST.false)) _ (check-told _ _ _ c.check_by.ensures ∙ c.in-Err.is))
     (omega (arith, c.if-out-lt-LONGEST.false)) c.put_refused.ensures
 
-pub returns-in-Accepted : goal.returns-in-Accepted
-returns-in-Accepted c = part-told _ _ _ _ _ _ _
-    (part-listed _ _ _ (omega (arith, c.if-out-lt-LONGEST.false)) (omega (arith, c.if-input-gt-MOST.false)) (check-told _ _ _ c.check_by.ensures ∙ c.in-Accepted.is))
+pub returns-in-Ok : goal.returns-in-Ok
+returns-in-Ok c = part-told _ _ _ _ _ _ _
+    (part-listed _ _ _ (omega (arith, c.if-out-lt-LONGEST.false)) (omega (arith, c.if-input-gt-MOST.false)) (check-told _ _ _ c.check_by.ensures ∙ c.in-Ok.is))
     (omega arith) c.fill.ensures

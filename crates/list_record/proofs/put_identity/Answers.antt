@@ -5,4 +5,4 @@ use Rattle.list_record.proofs.put_identity.Goals as goal
 
 pub returns : goal.returns
 returns c =
-    two c.put_pair-p1.ensures c.put_hex.ensures 2091 (omega arith)
+    rw c.from.ensures at (two c.put_pair.ensures c.put_hex.ensures 2091 (omega arith))

@@ -7,4 +7,4 @@ use Rattle.list_state.proofs.put_standing.Goals as goal
 pub returns : goal.returns
 unfolding standing_cells
 returns c =
-    three c.put_state-p1.ensures c.put_visibility-p2.ensures c.put_source.ensures 36 (omega arith)
+    three c.put_state.ensures c.put_visibility.ensures c.put_source.ensures 36 (omega arith)

@@ -5,8 +5,8 @@ use Rattle.list_place.specs.Pieces.{pieces_from}
 use Rattle.list_text.proofs.Fills.{Filling}
 use Rattle.list_text.proofs.fill.Given as goal
 
-abbrev pub invariant-loop-out : goal.invariant-loop-out
-invariant-loop-out l = Filling (meaning_of v3 l.seg) l.initial.next l.initial.out l.out l.next l.end
+abbrev pub invariant-loop-text : goal.invariant-loop-text
+invariant-loop-text l = Filling (meaning_of v3 l.seg) l.initial.next l.initial.text l.next l.text
 
-abbrev pub decreases-loop-out : goal.decreases-loop-out
-decreases-loop-out l = pieces_from (meaning_of v3 l.seg) l.next
+abbrev pub decreases-loop-text : goal.decreases-loop-text
+decreases-loop-text l = pieces_from (meaning_of v3 l.seg) l.next

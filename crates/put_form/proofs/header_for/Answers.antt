@@ -1,5 +1,4 @@
 -- `put_form::header_for` meets its contract: field by field.
-use Prim.Native.Nat.{◌*◌, ◌≤◌}
 use native.Mathlib.Nat.{mul-le-mul}
 use native.Mathlib.Omega.{arith}
 use Rattle.segment.proofs.Shapes.{shaped-most}
@@ -7,19 +6,13 @@ use Rattle.put_form.specs.Emit.{header_for}
 use Rattle.put_form.proofs.header_for.Goals as goal
 
 pub overflow_mul-digests : goal.overflow_mul-digests
-overflow_mul-digests c =
-    let records : c.args.sh.record_size * c.args.count ≤ 3670016 = mul-le-mul (shaped-most _ c.requires.shaped) c.requires.moderate.few in
-    omega (arith, records)
+overflow_mul-digests c = omega (arith, mul-le-mul (shaped-most _ c.requires.shaped) c.requires.moderate.few)
 
 pub overflow_add-digests : goal.overflow_add-digests
-overflow_add-digests c =
-    let records : c.args.sh.record_size * c.args.count ≤ 3670016 = mul-le-mul (shaped-most _ c.requires.shaped) c.requires.moderate.few in
-    omega (arith, records)
+overflow_add-digests c = omega (arith, mul-le-mul (shaped-most _ c.requires.shaped) c.requires.moderate.few)
 
 pub overflow_add-result : goal.overflow_add-result
-overflow_add-result c =
-    let records : c.args.sh.record_size * c.args.count ≤ 3670016 = mul-le-mul (shaped-most _ c.requires.shaped) c.requires.moderate.few in
-    omega (arith, records)
+overflow_add-result c = omega (arith, mul-le-mul (shaped-most _ c.requires.shaped) c.requires.moderate.few)
 
 pub returns : goal.returns
 unfolding header_for

@@ -1,89 +1,39 @@
 -- `put_form::put_sections` meets its contract: three stretches, one behind the other.
-use Prim.Native.Nat.{◌-◌, ◌≤◌}
-use mathlib.Core.Path.{◌∙◌}
 use native.Mathlib.Omega.{arith}
-use lib.ListN.{length}
-use Rattle.segment.specs.Format.{records_offset, digests_offset, extents_offset}
 use Rattle.put_item.proofs.ItemRows.{read-lines}
-use Rattle.put_form.proofs.Stretches.{section-same, places, records-room, digests-room, extents-room, sections-done, near, many, filled}
+use Rattle.put_form.specs.Emit.{sections_under}
+use Rattle.put_form.proofs.Stretches.{section-same, stretches}
 use Rattle.put_form.proofs.put_sections.Goals as goal
 
-pub overflow_sub-end : goal.overflow_sub-end
-overflow_sub-end c =
-    let stretches : let h = c.args.h in let out = length c.args.out.now in (records_offset h ≤ digests_offset h) × (digests_offset h ≤ extents_offset h) × (extents_offset h ≤ out - 24) × (24 ≤ out) = let p = places _ c.requires.shaped _ _ _ c.args.out.now c.requires.plan in
-    (p.one, p.two, p.three, p.footer) in
-    omega (arith, stretches)
+pub overflow_sub-records_size : goal.overflow_sub-records_size
+overflow_sub-records_size c = omega (arith, stretches _ c.requires.shaped _ c.args.source _ _ _ c.requires.plan)
 
-pub slice_bounds-put_records-count : goal.slice_bounds-put_records-count
-slice_bounds-put_records-count c =
-    let stretches : let h = c.args.h in let out = length c.args.out.now in (records_offset h ≤ digests_offset h) × (digests_offset h ≤ extents_offset h) × (extents_offset h ≤ out - 24) × (24 ≤ out) = let p = places _ c.requires.shaped _ _ _ c.args.out.now c.requires.plan in
-    (p.one, p.two, p.three, p.footer) in
-    omega (arith, stretches)
+pub split_at_mut-records-requires : goal.split_at_mut-records-requires
+split_at_mut-records-requires c = omega (arith, stretches _ c.requires.shaped _ c.args.source _ _ _ c.requires.plan)
 
-pub slice_bounds-put_records-start : goal.slice_bounds-put_records-start
-slice_bounds-put_records-start c =
-    let stretches : let h = c.args.h in let out = length c.args.out.now in (records_offset h ≤ digests_offset h) × (digests_offset h ≤ extents_offset h) × (extents_offset h ≤ out - 24) × (24 ≤ out) = let p = places _ c.requires.shaped _ _ _ c.args.out.now c.requires.plan in
-    (p.one, p.two, p.three, p.footer) in
-    omega (arith, stretches)
-
-pub slice_bounds-put_records-end : goal.slice_bounds-put_records-end
-slice_bounds-put_records-end c =
-    let stretches : let h = c.args.h in let out = length c.args.out.now in (records_offset h ≤ digests_offset h) × (digests_offset h ≤ extents_offset h) × (extents_offset h ≤ out - 24) × (24 ≤ out) = let p = places _ c.requires.shaped _ _ _ c.args.out.now c.requires.plan in
-    (p.one, p.two, p.three, p.footer) in
-    omega (arith, stretches)
+pub split_at_mut-digests-requires : goal.split_at_mut-digests-requires
+split_at_mut-digests-requires c = omega (arith, stretches _ c.requires.shaped _ c.args.source _ _ _ c.requires.plan, c.split_at_mut-records.ensures.back_len)
 
 pub put_records-requires : goal.put_records-requires
 put_records-requires c =
-    let w = c.requires.shaped in
-    let q = c.requires.plan in
-    let a = c.args in record { lines = c.requires.lines; near = near _ w _ a.kind a.bytes.now a.list.now a.extents.now a.numbers.now _ _ q; shaped = w; out_len = records-room _ w _ _ _ _ q ∙ many _ w _ a.kind a.bytes.now a.list.now a.extents.now a.numbers.now _ _ q }
-
-pub slice_bounds-put_digest_section-count : goal.slice_bounds-put_digest_section-count
-slice_bounds-put_digest_section-count c =
-    let stretches : let h = c.args.h in let out = length c.args.out.now in (records_offset h ≤ digests_offset h) × (digests_offset h ≤ extents_offset h) × (extents_offset h ≤ out - 24) × (24 ≤ out) = let p = places _ c.requires.shaped _ _ _ c.args.out.now c.requires.plan in
-    (p.one, p.two, p.three, p.footer) in
-    omega (arith, stretches)
-
-pub slice_bounds-put_digest_section-start : goal.slice_bounds-put_digest_section-start
-slice_bounds-put_digest_section-start c =
-    let stretches : let h = c.args.h in let out = length c.args.out.now in (records_offset h ≤ digests_offset h) × (digests_offset h ≤ extents_offset h) × (extents_offset h ≤ out - 24) × (24 ≤ out) = let p = places _ c.requires.shaped _ _ _ c.args.out.now c.requires.plan in
-    (p.one, p.two, p.three, p.footer) in
-    omega (arith, stretches)
-
-pub slice_bounds-put_digest_section-end : goal.slice_bounds-put_digest_section-end
-slice_bounds-put_digest_section-end c =
-    let stretches : let h = c.args.h in let out = length c.args.out.now in (records_offset h ≤ digests_offset h) × (digests_offset h ≤ extents_offset h) × (extents_offset h ≤ out - 24) × (24 ≤ out) = let p = places _ c.requires.shaped _ _ _ c.args.out.now c.requires.plan in
-    (p.one, p.two, p.three, p.footer) in
-    omega (arith, stretches)
+    let s = stretches _ c.requires.shaped _ c.args.source _ _ _ c.requires.plan in
+    record { lines = c.requires.lines; near = s.near; shaped = c.requires.shaped; out_len = omega (arith, c.split_at_mut-records.ensures.front_len) }
 
 pub put_digest_section-requires : goal.put_digest_section-requires
 put_digest_section-requires c =
-    let w = c.requires.shaped in
-    let q = c.requires.plan in
-    let a = c.args in record { each = read-lines a.kind a.bytes.now a.list.now a.extents.now a.numbers.now c.requires.lines; used_value = filled _ w _ a.kind a.bytes.now a.list.now a.extents.now a.numbers.now _ _ q; out_len = digests-room _ w _ _ _ _ q _ c.put_records.ensures }
-
-pub slice_bounds-put_extents-count : goal.slice_bounds-put_extents-count
-slice_bounds-put_extents-count c =
-    let stretches : let h = c.args.h in let out = length c.args.out.now in (records_offset h ≤ digests_offset h) × (digests_offset h ≤ extents_offset h) × (extents_offset h ≤ out - 24) × (24 ≤ out) = let p = places _ c.requires.shaped _ _ _ c.args.out.now c.requires.plan in
-    (p.one, p.two, p.three, p.footer) in
-    omega (arith, stretches)
-
-pub slice_bounds-put_extents-start : goal.slice_bounds-put_extents-start
-slice_bounds-put_extents-start c =
-    let stretches : let h = c.args.h in let out = length c.args.out.now in (records_offset h ≤ digests_offset h) × (digests_offset h ≤ extents_offset h) × (extents_offset h ≤ out - 24) × (24 ≤ out) = let p = places _ c.requires.shaped _ _ _ c.args.out.now c.requires.plan in
-    (p.one, p.two, p.three, p.footer) in
-    omega (arith, stretches)
-
-pub slice_bounds-put_extents-end : goal.slice_bounds-put_extents-end
-slice_bounds-put_extents-end c =
-    let stretches : let h = c.args.h in let out = length c.args.out.now in (records_offset h ≤ digests_offset h) × (digests_offset h ≤ extents_offset h) × (extents_offset h ≤ out - 24) × (24 ≤ out) = let p = places _ c.requires.shaped _ _ _ c.args.out.now c.requires.plan in
-    (p.one, p.two, p.three, p.footer) in
-    omega (arith, stretches)
+    let s = stretches _ c.requires.shaped _ c.args.source _ _ _ c.requires.plan in
+    record {
+      each = read-lines c.args.source _ c.requires.lines;
+      used_value = s.filled;
+      out_len = omega (arith, c.split_at_mut-digests.ensures.front_len);
+    }
 
 pub put_extents-requires : goal.put_extents-requires
 put_extents-requires c =
-    record { lines = c.requires.lines; out_len = extents-room _ c.requires.shaped _ _ _ c.args.out.now c.requires.plan _ c.put_records.ensures _ (c.put_digest_section.ensures ∙ section-same _ _ _ _ _) }
+    let s = stretches _ c.requires.shaped _ c.args.source _ _ _ c.requires.plan in
+    record { lines = c.requires.lines; out_len = omega (arith, c.split_at_mut-records.ensures.back_len, c.split_at_mut-digests.ensures.back_len) }
 
 pub returns : goal.returns
+unfolding sections_under
 returns c =
-    sections-done _ c.requires.shaped _ _ _ _ c.requires.plan _ c.put_records.ensures _ (c.put_digest_section.ensures ∙ section-same _ _ _ _ _) _ c.put_extents.ensures
+    rw (c.put_records.ensures, c.put_digest_section.ensures, section-same c.args.source c.args.numbers.now, c.put_extents.ensures)

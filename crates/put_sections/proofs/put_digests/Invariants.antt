@@ -1,11 +1,6 @@
--- `put_sections::put_digests` meets its contract: the digests of k items are put.
-use Prim.Native.Nat.{◌-◌}
-use lib.ListN.{length}
+-- `put_sections::put_digests` meets its contract: the digests of the items so far are put.
 use Rattle.put_sections.proofs.Turns.{Digesting}
 use Rattle.put_sections.proofs.put_digests.Given as goal
 
-abbrev pub invariant-loop-k : goal.invariant-loop-k
-invariant-loop-k l = Digesting l.kind l.bytes l.list l.numbers l.initial.out l.k l.at l.out
-
-abbrev pub decreases-loop-k : goal.decreases-loop-k
-decreases-loop-k l = length l.numbers - l.k
+abbrev pub invariant-loop-i : goal.invariant-loop-i
+invariant-loop-i l = Digesting l.items.kind l.items.bytes.now l.items.list.now l.numbers l.initial.out l.i-index l.at l.out

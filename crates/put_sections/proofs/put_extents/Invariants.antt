@@ -1,11 +1,6 @@
--- `put_sections::put_extents` meets its contract: the extents of k items are put.
-use Prim.Native.Nat.{◌-◌}
-use lib.ListN.{length}
+-- `put_sections::put_extents` meets its contract: the extents of the items so far are put.
 use Rattle.put_sections.proofs.Turns.{Extending}
 use Rattle.put_sections.proofs.put_extents.Given as goal
 
-abbrev pub invariant-loop-k : goal.invariant-loop-k
-invariant-loop-k l = Extending l.kind l.bytes l.list l.extents l.numbers l.initial.out l.k l.at l.out
-
-abbrev pub decreases-loop-k : goal.decreases-loop-k
-decreases-loop-k l = length l.numbers - l.k
+abbrev pub invariant-loop-i : goal.invariant-loop-i
+invariant-loop-i l = Extending l.source.items.kind l.source.items.bytes.now l.source.items.list.now l.source.extents.now l.numbers l.initial.out l.i-index l.at l.out

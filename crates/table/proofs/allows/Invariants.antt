@@ -1,12 +1,11 @@
 -- `table::allows` meets its contract: what the whole list says is what its rest says.
-use Prim.Native.Nat.{◌-◌}
-use lib.ListN.{length}
+use Rattle.std.proofs.Common.{◌≡◌}
+use Rattle.std.specs.Slice.Iter.{chunks_exact_rest, chunks_exact_size}
 use Rattle.table.specs.Table.{allows}
-use Rattle.table.proofs.Pairs.{Rest}
 use Rattle.table.proofs.allows.Given as goal
 
-abbrev pub invariant-loop-k : goal.invariant-loop-k
-invariant-loop-k l = Rest (λ q. allows q l.hash l.len) l.pairs l.k
-
-abbrev pub decreases-loop-k : goal.decreases-loop-k
-decreases-loop-k l = length l.pairs - l.k
+abbrev pub invariant-loop-pair : goal.invariant-loop-pair
+invariant-loop-pair l = record {
+  two : chunks_exact_size l.pair-iterator ≡ 2;
+  same : allows l.pairs l.hash l.len ≡ allows (chunks_exact_rest l.pair-iterator) l.hash l.len;
+}

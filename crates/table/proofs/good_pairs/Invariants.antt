@@ -1,12 +1,10 @@
 -- `table::good_pairs` meets its contract: what the whole list says is what its rest says.
-use Prim.Native.Nat.{◌-◌}
-use lib.ListN.{length}
+use Rattle.std.proofs.Common.{◌≡◌, length}
 use Rattle.table.specs.Table.{good_pairs}
-use Rattle.table.proofs.Pairs.{Rest}
 use Rattle.table.proofs.good_pairs.Given as goal
 
-abbrev pub invariant-loop-k : goal.invariant-loop-k
-invariant-loop-k l = Rest good_pairs l.pairs l.k
+abbrev pub invariant-loop-rest : goal.invariant-loop-rest
+invariant-loop-rest l = good_pairs l.pairs ≡ good_pairs l.rest
 
-abbrev pub decreases-loop-k : goal.decreases-loop-k
-decreases-loop-k l = length l.pairs - l.k
+abbrev pub decreases-loop-rest : goal.decreases-loop-rest
+decreases-loop-rest l = length l.rest

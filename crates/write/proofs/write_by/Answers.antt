@@ -1,32 +1,18 @@
 -- `write::write_by` meets its contract: the table, and then the rest under the copied table.
-use mathlib.Core.Path.{◌≡◌, ap, ◌∙◌, sym}
-use mathlib.Core.Bool.{true}
-use native.Mathlib.Omega.{arith}
+use mathlib.Core.Path.{◌≡◌}
+use mathlib.Core.Bool.{true, false}
+use borrow.Author.Rules.{rules}
 use Rattle.table.specs.Table.{good_table}
-use Rattle.table.proofs.Pairs.{sized, in-front, front-is, front_long}
 use Rattle.write.proofs.RequestItems.{table-bad, table-good}
 use Rattle.write.proofs.write_by.Goals as goal
 
-pub returns-then-not-good : goal.returns-then-not-good
-returns-then-not-good c = table-bad _ _ _ (sym c.good.ensures ∙ c.if-not-good.true)
-
-pub copied-numbers-requires : goal.copied-numbers-requires
-copied-numbers-requires c =
-    let good : good_table c.args.pairs.now ≡ true = sym c.good.ensures ∙ c.if-not-good.false in
-    sized _ (good)
-
-pub slice_bounds-numbers-end : goal.slice_bounds-numbers-end
-slice_bounds-numbers-end c = in-front _ _ c.copied-numbers.ensures _ (omega arith)
-
-pub slice_bounds-write_under-end : goal.slice_bounds-write_under-end
-slice_bounds-write_under-end c = front_long _ _ c.copied-numbers.ensures _ (omega arith)
-
-pub write_under-requires : goal.write_under-requires
-write_under-requires c =
-    let good : good_table c.args.pairs.now ≡ true = sym c.good.ensures ∙ c.if-not-good.false in
-    ap good_table (front-is _ _ c.copied-numbers.ensures) ∙ good
+pub returns-in_default : goal.returns-in_default
+returns-in_default c =
+    let bad : good_table c.args.pairs.now ≡ false = search rules in
+    table-bad _ _ _ bad
 
 pub returns : goal.returns
 returns c =
-    let good : good_table c.args.pairs.now ≡ true = sym c.good.ensures ∙ c.if-not-good.false in
-    table-good _ _ _ _ _ _ (good) (front-is _ _ c.copied-numbers.ensures) c.write_under.ensures
+    let good : good_table c.args.pairs.now ≡ true = search rules in
+    let same : c.pairs.result.now ≡ c.args.pairs.now = search rules in
+    table-good _ _ _ _ _ _ good same c.write_under.ensures

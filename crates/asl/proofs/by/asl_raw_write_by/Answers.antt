@@ -1,24 +1,12 @@
 -- `asl::by::asl_raw_write_by` meets its contract: the table, and what write says under it.
-use Rattle.c_table.proofs.Taking.{Copied, copied}
+use mathlib.Core.Path.{◌∙◌}
 use Rattle.asl.proofs.Called.{write-small, written}
 use Rattle.asl.proofs.by.asl_raw_write_by.Goals as goal
 
-pub slice_bounds-numbers-end : goal.slice_bounds-numbers-end
-slice_bounds-numbers-end c =
-    let known : Copied c.args.table.now c.numbers_in-numbers.result c.count_in-count.result = copied _ _ _ c.numbers_in-numbers.ensures c.count_in-count.ensures in
-    (known).within
-
-pub slice_bounds-write_by-end : goal.slice_bounds-write_by-end
-slice_bounds-write_by-end c =
-    let known : Copied c.args.table.now c.numbers_in-numbers.result c.count_in-count.result = copied _ _ _ c.numbers_in-numbers.ensures c.count_in-count.ensures in
-    (known).long
-
 pub settle-requires : goal.settle-requires
 settle-requires c =
-    let known : Copied c.args.table.now c.numbers_in-numbers.result c.count_in-count.result = copied _ _ _ c.numbers_in-numbers.ensures c.count_in-count.ensures in
-    write-small _ _ _ (known) _ _ _ c.write_by-answer.result c.write_by-answer.ensures
+    write-small _ _ (c.pairs.ensures ∙ c.new-lent.ensures) _ _ _ c.write_by-answer.result c.write_by-answer.ensures
 
 pub returns : goal.returns
 returns c =
-    let known : Copied c.args.table.now c.numbers_in-numbers.result c.count_in-count.result = copied _ _ _ c.numbers_in-numbers.ensures c.count_in-count.ensures in
-    written _ _ _ (known) _ _ _ c.write_by-answer.result c.write_by-answer.ensures c.settle.ensures
+    written _ _ (c.pairs.ensures ∙ c.new-lent.ensures) _ _ _ c.write_by-answer.result c.write_by-answer.ensures c.settle.ensures

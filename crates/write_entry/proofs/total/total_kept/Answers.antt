@@ -1,37 +1,12 @@
 -- `write_entry::total::total_kept` meets its contract: what is left of the extents decides.
 use mathlib.Core.Path.{ap}
 use mathlib.Core.Bool.{not}
-use Prim.Native.Nat.{◌-◌}
 use native.Mathlib.Omega.{arith}
 use Rattle.write_entry.proofs.Adding.{add_start, size_fits, add-more, total-past, total-told}
 use Rattle.write_entry.proofs.total.total_kept.Goals as goal
 
 pub loop-i-init : goal.loop-i-init
 loop-i-init c = add_start _ _ _
-
-pub overflow_add-at : goal.overflow_add-at
-overflow_add-at c = omega arith
-
-pub overflow_mul-at : goal.overflow_mul-at
-overflow_mul-at c = omega arith
-
-pub overflow_add-size : goal.overflow_add-size
-overflow_add-size c = omega arith
-
-pub offset_bounds-extents-at : goal.offset_bounds-extents-at
-offset_bounds-extents-at c = omega arith
-
-pub bounds-extents-at : goal.bounds-extents-at
-bounds-extents-at c = omega arith
-
-pub overflow_add-at-in-loop-i : goal.overflow_add-at-in-loop-i
-overflow_add-at-in-loop-i c = omega arith
-
-pub offset_bounds-extents-at-in-loop-i : goal.offset_bounds-extents-at-in-loop-i
-offset_bounds-extents-at-in-loop-i c = omega arith
-
-pub bounds-extents-at-in-loop-i : goal.bounds-extents-at-in-loop-i
-bounds-extents-at-in-loop-i c = omega arith
 
 pub returns-then-not-extent_fits : goal.returns-then-not-extent_fits
 returns-then-not-extent_fits c =
@@ -41,9 +16,6 @@ pub overflow_add-sum : goal.overflow_add-sum
 overflow_add-sum c =
     let l = size_fits _ _ _ _ _ c.loop-i.invariant (omega arith) _ c.extent_fits.ensures (ap not c.if-not-extent_fits.false) in
     omega arith
-
-pub overflow_add-i : goal.overflow_add-i
-overflow_add-i c = omega arith
 
 pub loop-i-preserved : goal.loop-i-preserved
 loop-i-preserved c =
