@@ -21,7 +21,7 @@ MAY_NAME_THE_PAPER = {"README.md", "docs/DECISIONS.md"}
 NOT_OURS = {".git", "target"}
 MADE = re.compile(r"crates/\w+/out")
 # A change that was set aside, as a patch: the lines that differ, which are no text of ours until it is applied.
-SET_ASIDE = {"docs/unfinished.patch"}
+SET_ASIDE = {"docs/unfinished.patch", "docs/design-left.patch"}
 
 GAP = r"(?:\s+(?:(?://|--|#|\*)\s+)?)"  # between two words of a comment or a page
 QUOTED = r"\"[^\"]+\"|'[^']+'"
