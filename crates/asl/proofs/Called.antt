@@ -27,19 +27,19 @@ use Rattle.write.proofs.RequestItems.{table-bad as write-bad}
 use Rattle.c_answer.specs.declared.Reply.{Reply}
 use Rattle.c_answer.specs.Boundary.{value_limit, answer_bits, bits_of, refused_bits, length_bits, Left, left, given_to, reply_of, reply_left, step_left, Small, Sayable, sealed_as}
 use Rattle.c_answer.proofs.Replies.{refused-is, reply-sayable}
-use Rattle.c_table.specs.Lent.{table_in, taken}
-use Rattle.c_table.proofs.Taking.{alike-said}
+use Rattle.c_table.specs.Lent.{table_in}
+use Rattle.c_table.proofs.Taking.{Alike, said-alike}
 use Rattle.asl.proofs.Places.{checked-place, looked-up-place, stepped-place, tidied-small, sized-small, wrote-small}
 
 step-bad : (pairs s : List ℕ) (k : ℕ) → good_table pairs ≡ false → step_answer (Err (refusal TableWrong 0)) ≡ step_of pairs s k
 unfolding step_of stepped checked table_verdict
 step-bad pairs s k e = rw e
 
-module _ (bytes part : List ℕ) (l : part ≡ taken bytes) where
+module _ (bytes part : List ℕ) (l : Alike bytes part) where
   -- check
   module _ (s : List ℕ) (v : Verdict) (c : check_answer v ≡ check_of part s) where
     checked-alike : check_answer v ≡ check_of (table_in bytes) s
-    checked-alike = c ∙ alike-said (λ p. check_of p s) (check_answer (Err (refusal TableWrong 0))) (λ p. check-bad p s) bytes l
+    checked-alike = c ∙ said-alike (λ p. check_of p s) (check_answer (Err (refusal TableWrong 0))) (λ p. check-bad p s) bytes l
 
     pub check-accepted : v ≡ accepted → 0 ≡ bits_of (check_of (table_in bytes) s) 0
     unfolding bits_of answer_bits
@@ -58,7 +58,7 @@ module _ (bytes part : List ℕ) (l : part ≡ taken bytes) where
     unfolding look_up_of
     found_alike =
         found-settled f (looked_up (table_in bytes) s key)
-        (c ∙ alike-said (λ p. look_up_of p s key) (found_answer (Err (refusal TableWrong 0))) (λ p. look-up-bad p s key) bytes l)
+        (c ∙ said-alike (λ p. look_up_of p s key) (found_answer (Err (refusal TableWrong 0))) (λ p. look-up-bad p s key) bytes l)
 
     pub look-up-sayable : (a : Reply) → a ≡ reply_of f → Sayable a
     look-up-sayable a e = reply-sayable a f e (λ r g. looked-up-place (table_in bytes) s key r (sym found_alike ∙ g))
@@ -72,7 +72,7 @@ module _ (bytes part : List ℕ) (l : part ≡ taken bytes) where
     step-alike : t ≡ stepped (table_in bytes) s k
     unfolding step_of
     step-alike =
-        step-settled t (stepped (table_in bytes) s k) (c ∙ alike-said (λ p. step_of p s k) (step_answer (Err (refusal TableWrong 0))) (λ p. step-bad p s k) bytes l)
+        step-settled t (stepped (table_in bytes) s k) (c ∙ said-alike (λ p. step_of p s k) (step_answer (Err (refusal TableWrong 0))) (λ p. step-bad p s k) bytes l)
 
     pub step-place : {x : Refusal} → t ≡ Err x → x.1 < value_limit
     step-place {x} e = stepped-place (table_in bytes) s k x (sym step-alike ∙ e)
@@ -101,7 +101,7 @@ module _ (bytes part : List ℕ) (l : part ≡ taken bytes) where
 
     pub length-said : {b : ℕ} → b ≡ length_bits (written_answer w) → b ≡ length_bits (tidy_length_of (table_in bytes) s)
     length-said g =
-        g ∙ ap (λ (a : Answer). length_bits a) (c ∙ alike-said (λ p. tidy_length_of p s) (written_answer (Err (refusal TableWrong 0))) (λ p. length-bad p s) bytes l)
+        g ∙ ap (λ (a : Answer). length_bits a) (c ∙ said-alike (λ p. tidy_length_of p s) (written_answer (Err (refusal TableWrong 0))) (λ p. length-bad p s) bytes l)
 
   -- tidy and write
   sealed : (w : Written) (o : Outcome) {b : ℕ} {after : List ℕ} → outcome w after ≡ o → b ≡ length_bits (written_answer w) → left b after ≡ sealed_as o
@@ -113,11 +113,11 @@ module _ (bytes part : List ℕ) (l : part ≡ taken bytes) where
     tidy-small = tidied-small part s out after w c
 
     pub tidied : {b : ℕ} → b ≡ length_bits (written_answer w) → left b after ≡ sealed_as (tidy_of (table_in bytes) s out)
-    tidied f = sealed w (tidy_of (table_in bytes) s out) (c ∙ alike-said (λ p. tidy_of p s out) (outcome (Err (refusal TableWrong 0)) out) (λ p. tidy-bad p s out) bytes l) f
+    tidied f = sealed w (tidy_of (table_in bytes) s out) (c ∙ said-alike (λ p. tidy_of p s out) (outcome (Err (refusal TableWrong 0)) out) (λ p. tidy-bad p s out) bytes l) f
 
   module _ (q : Request) (out after : List ℕ) (w : Written) (c : outcome w after ≡ write_of part q out) where
     pub write-small : Small w
     write-small = wrote-small part q out after w c
 
     pub written : {b : ℕ} → b ≡ length_bits (written_answer w) → left b after ≡ sealed_as (write_of (table_in bytes) q out)
-    written f = sealed w (write_of (table_in bytes) q out) (c ∙ alike-said (λ p. write_of p q out) (outcome (Err (refusal TableWrong 0)) out) (λ p. write-bad p q out) bytes l) f
+    written f = sealed w (write_of (table_in bytes) q out) (c ∙ said-alike (λ p. write_of p q out) (outcome (Err (refusal TableWrong 0)) out) (λ p. write-bad p q out) bytes l) f

@@ -5,13 +5,14 @@ use mathlib.Core.Path.{◌≡◌, sym, ap, ◌∙◌}
 use mathlib.Core.Bool.{false}
 use mathlib.Core.Logic.{◌⊎◌, inl, inr, ⊎_elim}
 use mathlib.Core.List.{List, []}
+use native.Mathlib.Nat.{le_refl}
 use native.Mathlib.Omega.{arith}
 use borrow.Author.Tests.{eqb-true, leb-true, leb-false}
 use lib.Dec.{eqb, leb}
-use lib.ListN.{length, get_or, set}
+use lib.ListN.{length, get_or, take, set}
 use Rattle.lists.proofs.Tests.{tests, by-test}
-use Rattle.table.specs.Table.{good_table}
-use Rattle.table.proofs.Pairs.{empty-table, long-table, Filling, filling-more}
+use Rattle.table.specs.Table.{good_table, by_value}
+use Rattle.table.proofs.Pairs.{empty-table, long-table, Filling, filling-more, in-front, front-is, front_long}
 use Rattle.lists.proofs.Counted.{counted-long, counted-at}
 use Rattle.c_table.specs.Lent.{word_no, table_in, taken}
 
@@ -89,12 +90,36 @@ pub taking-more : (bytes words : List ℕ) (i v : ℕ) → Filling (taken bytes)
     → Filling (taken bytes) (set words i v) (i + 1)
 taking-more bytes words i v c w e = filling-more (taken bytes) words i c v w.place w.among (e ∙ sym w.is)
 
--- a service that says one thing of all that is no good table says the same of the numbers that are taken and of those that the bytes hold
-pub alike-said : {A : Type 0} (f : List ℕ → A) (bad : A) → ((p : List ℕ) → good_table p ≡ false → bad ≡ f p) → (bytes : List ℕ) {part : List ℕ}
-    → part ≡ taken bytes → f part ≡ f (table_in bytes)
-alike-said f bad says bytes l =
-    ap f l
-    ∙ ⊎_elim
-    (λ w. ap f (all-taken bytes w.0 w.1))
-    (λ none. ap f none.0 ∙ sym (says [] (sym (empty-table [] (omega arith)))) ∙ says (table_in bytes) none.1)
+-- what a caller knows of numbers that were taken of bytes: they are those that the bytes hold, or neither is a good table
+abbrev pub Alike : List ℕ → List ℕ → Type 0
+Alike bytes part = (part ≡ table_in bytes) ⊎ ((good_table part ≡ false) × (good_table (table_in bytes) ≡ false))
+
+pub taken-alike : (bytes : List ℕ) {part : List ℕ} → part ≡ taken bytes → Alike bytes part
+taken-alike bytes {part} e =
+    ⊎_elim
+    (λ f. inl (e ∙ all-taken bytes f.0 f.1))
+    (λ none. inr (ap good_table (e ∙ none.0) ∙ sym (empty-table [] (omega arith)), none.1))
     (fits-or-not bytes)
+
+-- the same of a table by value and its count
+pub record Copied (bytes table : List ℕ) (count : ℕ) : Type 0 where
+  pub within : count ≤ length table
+  pub long : count ≡ length (take count table)
+  pub alike : Alike bytes (take count table)
+
+pub copied : (bytes table : List ℕ) (count : ℕ) → table ≡ by_value (taken bytes) → count ≡ length (taken bytes) → Copied bytes table count
+copied bytes table count e n =
+    rw n (record {
+      within = in-front (taken bytes) table e (length (taken bytes)) (le_refl _);
+      long = front_long (taken bytes) table e (length (taken bytes)) (le_refl _);
+      alike = taken-alike bytes (front-is (taken bytes) table e);
+    })
+
+-- a service that says one thing of all that is no good table says the same of both
+pub said-alike : {A : Type 0} (f : List ℕ → A) (bad : A) → ((p : List ℕ) → good_table p ≡ false → bad ≡ f p) → (bytes : List ℕ) {part : List ℕ}
+    → Alike bytes part → f part ≡ f (table_in bytes)
+said-alike f bad says bytes l = ⊎_elim (λ e. ap f e) (λ n. sym (says _ n.0) ∙ says _ n.1) l
+
+pub alike-said : {A : Type 0} (f : List ℕ → A) (bad : A) → ((p : List ℕ) → good_table p ≡ false → bad ≡ f p) → {bytes table : List ℕ} {count : ℕ}
+    → Copied bytes table count → f (take count table) ≡ f (table_in bytes)
+alike-said f bad says {bytes} l = said-alike f bad says bytes l.alike

@@ -2,7 +2,6 @@
 #![tactic(auto)]
 
 ghost use Rattle.std.specs.Prelude.{◌≡◌, ◌≤◌, ℕ, List, length, take};
-ghost use Rattle.table.specs.Table.{by_value};
 ghost use Rattle.c_table.specs.Lent.{taken};
 
 use numbers::Number;
@@ -18,16 +17,6 @@ fn count_in(bytes: &[u8]) -> usize
         return 0;
     }
     bytes.len() / 8
-}
-
-fn numbers_in(bytes: &[u8]) -> [u64; 32]
-    ensures { result ≡ by_value (taken bytes.now) }
-{
-    let mut table = [0u64; 32];
-    for i in 0..count_in(bytes) {
-        table[i] = u64::read(bytes, 8 * i);
-    }
-    table
 }
 
 // The numbers that are taken, by value. Contracts see them as the list.
@@ -49,9 +38,14 @@ impl Lent {
     pub fn new(bytes: &[u8]) -> Lent
         ensures { result ≡ taken bytes.now }
     {
+        let count = count_in(bytes);
+        let mut table = [0u64; 32];
+        for i in 0..count {
+            table[i] = u64::read(bytes, 8 * i);
+        }
         Lent {
-            numbers: numbers_in(bytes),
-            count: count_in(bytes),
+            numbers: table,
+            count,
         }
     }
 

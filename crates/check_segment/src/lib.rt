@@ -77,5 +77,6 @@ pub fn check_by(by: Engine, pairs: &[u64], seg: &[u8]) -> Result<(), Refusal>
     let Some(table) = Table::new(pairs) else {
         return Err(Refusal(Rule::Table, 0));
     };
-    check_segment(by, table.pairs(), seg)
+    let numbers = table::copied(table.pairs());
+    check_segment(by, &numbers[..pairs.len()], seg)
 }

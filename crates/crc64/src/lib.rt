@@ -53,7 +53,7 @@ pub fn crc64_finish(register: u64) -> u64
     register ^ START
 }
 
-#[tactic(auto, unfolding(crate::specs::Crc::crc))]
+#[tactic(auto, using(crate::proofs::CrcLaws::run_whole), unfolding(crate::specs::Crc::crc))]
 pub fn crc64_plain(s: &[u8]) -> u64
     ensures { result ≡ crc s.now }
 {

@@ -1,24 +1,26 @@
 -- The laws of eight bytes at a step: the bytes of a word go in together, and each byte of the register goes through its own table.
 --   together   bytes that go in one after the other go in together
+--   more       a run that has come to i comes to i + n by n bytes at once
 --   run_eight  eight bytes in front of a list go in at once
 --   slices     of the four low bytes of a number each goes by itself
 --   halves     of a register the four low bytes go by themselves, and so do the four high ones
+--   pack       one more byte above those that are packed, by a shift that loses nothing
 --   packed_eight   eight bytes as a sum, since their digits are apart
 --   from_first a slice from its first byte on is the slice
 -- Assumes nothing.
-use mathlib.Core.Path.{◌≡◌, refl, sym, ap, ◌∙◌, subst}
+use mathlib.Core.Path.{◌≡◌, refl, sym, ap, ap₂, ◌∙◌, subst}
 use mathlib.Core.List.{List, ◌++◌}
 use Prim.Native.Nat.{ℕ, zero, suc, ◌+◌, ◌-◌, ◌*◌, ◌/◌, ◌%◌, ◌^◌, ◌≤◌, ◌<◌}
-use native.Mathlib.Nat.{div-eq_of_lt, mod-lt, lt_of_lt_of_le}
+use native.Mathlib.Nat.{div-eq_of_lt, mod-lt, add-zero, lt_of_lt_of_le}
 use native.Mathlib.Numerals.{add-one}
 use native.Mathlib.Omega.{arith}
-use lib.Pow.{pow_mono, pow_pos, shr-shr, shl_lt, field, mod-mod-pow, shr_mod}
-use lib.Bits.{bit_xor, xor_zero_r, xor_comm, xor_lt, xor_shifted}
+use lib.Pow.{pow_mono, pow_pos, shr-shr, shl_exact, shl_lt, field, mod-mod-pow, shr_mod}
+use lib.Bits.{bit_xor, bit_or, xor_zero_r, xor_comm, xor_lt, xor_shifted, or_shifted_r}
 use lib.Dec.{lit<}
 use lib.ListN.{length, get_or, take, drop, length-append}
 use lib.Seq.{take_all, drop-append-add}
 use Rattle.crc64.specs.Crc.{steps, byte, run}
-use Rattle.crc64.proofs.CrcLaws.{run-append, run_more, run_none}
+use Rattle.crc64.proofs.CrcLaws.{Reached, one_more, run-append, run_more, run_none}
 use Rattle.crc64_laws.proofs.Xor.{xor_assoc}
 use Rattle.crc64_laws.proofs.StepLaws.{byte-steps, cut, steps-none}
 use Rattle.crc64_fast.specs.Word.{packed}
@@ -38,6 +40,18 @@ together c b (suc n) =
     let e : 8 + 8 * n ≡ 8 * suc n = omega arith in
     ap (λ (x : ℕ). byte x d) (together c b n) ∙ byte-steps m (bit_xor c p) d
     ∙ ap (steps (8 + m)) (xor_assoc c p (d * 2 ^ m)) ∙ ap (λ (k : ℕ). steps k (bit_xor c (bit_xor p (d * 2 ^ m)))) e
+
+-- a run over a list, n bytes at once from where it has come to
+fed-more : {s : List ℕ} {c₀ c i : ℕ} (n : ℕ) → Reached c₀ s c i → i + n ≤ length s → Reached c₀ s (fed c (λ k. get_or s (i + k) 0) n) (i + n)
+unfolding fed
+fed-more zero r h = rw add-zero r
+fed-more {s} {c₀} {c} {i} (suc n) r h =
+    let e : i + n + 1 ≡ i + suc n = omega arith in
+    subst (Reached c₀ s (fed c (λ k. get_or s (i + k) 0) (suc n))) e (one_more (fed-more n r (omega arith)) (omega arith))
+
+pub more : {s : List ℕ} {c₀ c i : ℕ} (n : ℕ) → Reached c₀ s c i → i + n ≤ length s
+    → Reached c₀ s (steps (8 * n) (bit_xor c (packed (λ k. get_or s (i + k) 0) n))) (i + n)
+more {s} {c} {i} n r h = rw (together c (λ k. get_or s (i + k) 0) n) at (fed-more n r h)
 
 -- of a list that is run over, n bytes first
 run_fed : (s : List ℕ) (c n : ℕ) → n ≤ length s → run c s ≡ run (fed c (λ k. get_or s k 0) n) (drop n s)
@@ -103,6 +117,16 @@ packed_lt b (suc n) bytes =
     subst (λ (m : ℕ). bit_xor (packed b n) (b n * 2 ^ (8 * n)) < 2 ^ m) e
     (xor_lt (8 + 8 * n) (packed b n) (b n * 2 ^ (8 * n))
     (lt_of_lt_of_le (packed_lt b n bytes) (pow_mono {i = 8 * n} {j = 8 + 8 * n} (omega arith))) (shl_lt 8 (8 * n) (bytes n)))
+
+-- one byte more, put above those that are packed by a shift: the shift loses nothing, and the digits are apart
+pub pack : (k : ℕ) (b : ℕ → ℕ) {p r : ℕ} → k < 8 → ((j : ℕ) → b j < 256) → p ≡ packed b k → r ≡ b k
+    → bit_or p (r * 2 ^ (8 * k) % 2 ^ 64) ≡ packed b (k + 1)
+unfolding packed
+pack k b h bytes e f =
+    let m = 8 * k in
+    ap₂ bit_or e (ap (λ (x : ℕ). x * 2 ^ m % 2 ^ 64) f ∙ shl_exact 8 m 64 (bytes k) (omega arith))
+    ∙ or_shifted_r (b k) m (packed b k) (packed_lt b k bytes) ∙ sym (xor_shifted (b k) m (packed b k) (packed_lt b k bytes))
+    ∙ xor_comm (b k * 2 ^ m) (packed b k) ∙ rw add-one
 
 -- one byte more stands above those that are packed
 packed_more : (b : ℕ → ℕ) (n : ℕ) → ((k : ℕ) → b k < 256) → packed b (suc n) ≡ packed b n + b n * 2 ^ (8 * n)

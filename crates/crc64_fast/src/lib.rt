@@ -12,12 +12,17 @@ ghost use Rattle.crc64_fast.specs.Word.{packed};
 // The length in bytes from which the tables are used. They pay from somewhat less on, if their code is in the caches (docs/PERFORMANCE.md, "The checksum").
 const PAYS: usize = 640;
 
-// Eight bytes as one number, the first lowest.
+// Eight bytes as one number, the first lowest. By shifts: the library's `from_le_bytes` multiplies, and what goes into the register is a
+// sum without carry.
 fn word(s: &[u8]) -> u64
     requires { length s.now ≡ 8 }
     ensures { result ≡ packed (λ k. get_or s.now k 0) 8 }
 {
-    u64::from_le_bytes(s.try_into().unwrap())
+    let mut w: u64 = 0;
+    for k in 0usize..8 {
+        w = w | (u64::from(s[k]) << (8 * k));
+    }
+    w
 }
 
 // The number of x's lowest byte in table k. The library has no `From` of a u64 for a usize.

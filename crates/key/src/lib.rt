@@ -28,12 +28,12 @@ pub enum Kind {
 pub const NO_LIST: [u64; 0] = [];
 
 // Items, and what they are read from. For records the bytes are the segment, and the list is not read; for entries the bytes are the
-// run of digests, and the list holds the entries.
+// run of digests, and the list holds the entries. A digest is a part of the bytes, and lives as long as these.
 #[derive(Clone, Copy)]
-pub struct Items<'a> {
+pub struct Items<'a, 'l> {
     pub kind: Kind,
     pub bytes: &'a [u8],
-    pub list: &'a [u64],
+    pub list: &'l [u64],
 }
 
 // A part of the bytes: where it starts, and how long it is.
@@ -60,9 +60,9 @@ fn entry_span(e: Entry) -> Span
     Span { start, size }
 }
 
-impl<'a> Items<'a> {
+impl<'a, 'l> Items<'a, 'l> {
     // The records of a shape that begin at a place in a segment.
-    pub fn records(first: FileOffset, shape: Shape, segment: &'a [u8]) -> Items<'a>
+    pub fn records(first: FileOffset, shape: Shape, segment: &'a [u8]) -> Items<'a, 'l>
         ensures kind { result.kind ≡ Records first shape }
         ensures bytes { result.bytes.now ≡ segment.now }
         ensures list { result.list.now ≡ [] }
@@ -75,7 +75,7 @@ impl<'a> Items<'a> {
     }
 
     // The entries of a flat list, and the run of their digests.
-    pub fn entries(digests: &'a [u8], entries: &'a [u64]) -> Items<'a>
+    pub fn entries(digests: &'a [u8], entries: &'l [u64]) -> Items<'a, 'l>
         ensures kind { result.kind ≡ Entries }
         ensures bytes { result.bytes.now ≡ digests.now }
         ensures list { result.list.now ≡ entries.now }

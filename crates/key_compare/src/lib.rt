@@ -10,11 +10,27 @@ use key::Items;
 use key::head::{Head, compare_heads};
 use std::cmp::Ordering;
 
+// So many bytes are told one by one: most keys part among them, and the library looks at many bytes before it tells.
+const NEAR: usize = 16;
+
+// The library's comparison. Never inlined: without it that of the near bytes is short enough to stand in those who compare keys.
+#[inline(never)]
+fn compare_far(a: &[u8], b: &[u8]) -> Ordering
+    ensures { result ≡ lex a.now b.now }
+{
+    a.cmp(&b)
+}
+
 // The first unlike bytes decide; where one list is the other's beginning, it is the lesser.
 pub fn compare_bytes(a: &[u8], b: &[u8]) -> Ordering
     ensures { result ≡ lex a.now b.now }
 {
-    a.cmp(&b)
+    for i in 0..a.len().min(b.len()).min(NEAR) {
+        if a[i] != b[i] {
+            return a[i].cmp(&b[i]);
+        }
+    }
+    compare_far(a, b)
 }
 
 // How two keys stand to each other: their heads decide, and where these are equal the digests.

@@ -69,7 +69,7 @@ pub fn put_hints(items: Items, hints: &mut [u32])
 // Items, and a hint of the key of each.
 #[derive(Clone, Copy)]
 pub struct Keys<'a> {
-    pub items: Items<'a>,
+    pub items: Items<'a, 'a>,
     pub hints: &'a [u32],
 }
 

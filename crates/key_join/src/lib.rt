@@ -9,6 +9,16 @@ ghost use Rattle.key_join.specs.Joins.{Joins};
 
 use key_hint::Keys;
 
+// All of `to`, from the front of `from`. Not by the library's copying, for which an archive for C would ask `memmove` from outside.
+fn copy_front(from: &[u16], to: &mut [u16])
+    requires { length to.old ≤ length from.now }
+    ensures { to.new ≡ take (length to.old) from.now }
+{
+    for (i, number) in to.iter_mut().enumerate() {
+        *number = from[i];
+    }
+}
+
 // The first m numbers, which are sorted, and the others, into one list. Where the last of those comes no later than the first of
 // these, all stay where they stand: so numbers in order are sorted by one comparison each.
 pub fn join(keys: Keys, numbers: &mut [u16], m: usize, spare: &mut [u16])
@@ -24,6 +34,5 @@ pub fn join(keys: Keys, numbers: &mut [u16], m: usize, spare: &mut [u16])
     }
     let (left, right) = numbers.split_at(m);
     key_merge::merge(keys, left, right, spare);
-    let n = numbers.len();
-    numbers.copy_from_slice(&spare[..n]);
+    copy_front(spare, numbers);
 }

@@ -96,5 +96,6 @@ pub fn look_up_by(
     let Some(table) = Table::new(pairs) else {
         return Err(Refusal(Rule::Table, 0));
     };
-    look_up_under(by, table.pairs(), seg, hash, digest)
+    let numbers = table::copied(table.pairs());
+    look_up_under(by, &numbers[..pairs.len()], seg, hash, digest)
 }

@@ -1,7 +1,7 @@
 -- The laws of little-endian numbers, each over the width. The two round trips are num_at-put and put-num_at.
 -- Assumes nothing.
 use Prim.Native.Nat.{ℕ, zero, suc, ◌+◌, ◌*◌, ◌/◌, ◌%◌, ◌^◌, ◌≤◌, ◌<◌}
-use mathlib.Core.Path.{◌≡◌, refl, sym, ap}
+use mathlib.Core.Path.{◌≡◌, refl, sym, ap, ◌∙◌}
 use mathlib.Core.List.{List, [], ◌∷◌, ◌++◌, append_assoc, append-nil}
 use native.Mathlib.Nat.{add_assoc, mul_assoc, zero-add, suc-add, pow-suc, pow-succ', one-le-pow, div-one, div-div-eq-div-mul}
 use native.Mathlib.Omega.{arith}
@@ -128,6 +128,28 @@ write-halves n s k v h p q =
     let j : put (put s k (bytes_of n v)) (k + n) (bytes_of n (v / 256 ^ n)) ≡ put s k (bytes_of n v ++ bytes_of n (v / 256 ^ n)) =
     rw l at (put-put s k (bytes_of n v) (bytes_of n (v / 256 ^ n)) (omega arith)) in
     rw (q, p, bytes_of_mod, bytes_of-add) j
+
+-- the same at each width, as code by halves says it: a number of two bytes by its bytes, wider ones by the numbers of half the width
+pub two_by_bytes : (s : List ℕ) (k : ℕ) {r : ℕ} → k + 2 ≤ length s → r ≡ get_or s k 0 + get_or s (k + 1) 0 * 256 → r ≡ num_at 2 s k
+two_by_bytes s k h e =
+    let two : get_or s k 0 + 256 * get_or s (k + 1) 0 ≡ num_at 2 s k = read-halves 1 s k (omega arith) (sym (num_at_one s k (omega arith))) (sym (num_at_one s (k + 1) (omega arith))) in
+    omega (arith, e, two)
+
+pub four_by_halves : (s : List ℕ) (k : ℕ) {lo hi x y : ℕ} → k + 4 ≤ length s → x ≡ lo → lo ≡ num_at 2 s k → y ≡ hi → hi ≡ num_at 2 s (k + 2)
+    → x + 65536 * y ≡ num_at 4 s k
+four_by_halves s k h p q e f = read-halves 2 s k (omega arith) (p ∙ q) (e ∙ f)
+
+pub eight_by_halves : (s : List ℕ) (k : ℕ) {lo hi x y : ℕ} → k + 8 ≤ length s → x ≡ lo → lo ≡ num_at 4 s k → y ≡ hi → hi ≡ num_at 4 s (k + 4)
+    → x + 4294967296 * y ≡ num_at 8 s k
+eight_by_halves s k h p q e f = read-halves 4 s k (omega arith) (p ∙ q) (e ∙ f)
+
+pub put_four_by_halves : (s : List ℕ) (k v : ℕ) {mid out : List ℕ} → k + 4 ≤ length s → mid ≡ put s k (bytes_of 2 (v % 65536))
+    → out ≡ put mid (k + 2) (bytes_of 2 (v / 65536)) → out ≡ put s k (bytes_of 4 v)
+put_four_by_halves s k v h = write-halves 2 s k v (omega arith)
+
+pub put_eight_by_halves : (s : List ℕ) (k v : ℕ) {mid out : List ℕ} → k + 8 ≤ length s → mid ≡ put s k (bytes_of 4 (v % 4294967296))
+    → out ≡ put mid (k + 4) (bytes_of 4 (v / 4294967296)) → out ≡ put s k (bytes_of 8 v)
+put_eight_by_halves s k v h = write-halves 4 s k v (omega arith)
 
 -- nothing put, and one byte stored
 pub put-none : (s : List ℕ) (k : ℕ) → put s k [] ≡ s

@@ -43,7 +43,7 @@ impl Number for u8 {
     }
 }
 
-#[tactic(auto, using(crate::proofs::LibraryBytes::read_bytes, crate::proofs::LibraryBytes::put_bytes))]
+#[tactic(auto, using(crate::proofs::LibraryBytes::read_bytes, crate::proofs::LibraryBytes::put_bytes, crate::proofs::NumberLaws::two_by_bytes))]
 impl Number for u16 {
     ghost size = { 2 };
 
@@ -58,7 +58,7 @@ impl Number for u16 {
     }
 }
 
-#[tactic(auto, using(crate::proofs::LibraryBytes::read_bytes, crate::proofs::LibraryBytes::put_bytes))]
+#[tactic(auto, using(crate::proofs::LibraryBytes::read_bytes, crate::proofs::LibraryBytes::put_bytes, crate::proofs::NumberLaws::four_by_halves, crate::proofs::NumberLaws::put_four_by_halves))]
 impl Number for u32 {
     ghost size = { 4 };
 
@@ -73,7 +73,7 @@ impl Number for u32 {
     }
 }
 
-#[tactic(auto, using(crate::proofs::LibraryBytes::read_bytes, crate::proofs::LibraryBytes::put_bytes))]
+#[tactic(auto, using(crate::proofs::LibraryBytes::read_bytes, crate::proofs::LibraryBytes::put_bytes, crate::proofs::NumberLaws::eight_by_halves, crate::proofs::NumberLaws::put_eight_by_halves))]
 impl Number for u64 {
     ghost size = { 8 };
 

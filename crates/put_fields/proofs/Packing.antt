@@ -1,14 +1,20 @@
 -- Fields put one after the other, each behind the one before, are their packed bytes put at once.
 -- Assumes nothing.
 use Prim.Native.Nat.{ℕ, ◌+◌, ◌≤◌}
-use mathlib.Core.Path.{◌≡◌, sym, ◌∙◌}
-use mathlib.Core.List.{List, [], ◌∷◌}
+use mathlib.Core.Path.{◌≡◌, refl, sym, ap, ◌∙◌}
+use mathlib.Core.List.{List, [], ◌∷◌, ◌++◌, append_assoc}
 use native.Mathlib.Omega.{arith}
 use lib.ListN.{length}
 use Rattle.numbers.specs.Numbers.{bytes_of, put}
 use Rattle.numbers.proofs.NumberLaws.{length-bytes_of, put-put, put-none, length-put}
 use Rattle.segment.specs.Tidy.{Field, packed}
 use Rattle.form_laws.proofs.PackedFields.{widths}
+
+-- fields behind fields are packed behind them
+pub packed-append : (fs gs : List Field) → packed (fs ++ gs) ≡ packed fs ++ packed gs
+unfolding packed
+packed-append [] gs = refl
+packed-append (f ∷ fs) gs = ap (λ (t : List ℕ). bytes_of f.width f.value ++ t) (packed-append fs gs) ∙ sym (append_assoc (bytes_of f.width f.value) (packed fs) (packed gs))
 
 -- what fields leave that are put from k bytes behind the place a on
 abbrev pub puts : List ℕ → ℕ → ℕ → List Field → List ℕ

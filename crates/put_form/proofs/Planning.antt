@@ -24,7 +24,7 @@ use Rattle.put_item.specs.declared.Sizes.{Sizes}
 use Rattle.put_item.specs.declared.Source.{Source}
 use Rattle.put_item.specs.Lines.{measured}
 use Rattle.put_item.specs.Sources.{row_in, rows_in, LinesIn, measured_in}
-use Rattle.put_item.proofs.ItemRows.{digests-come, extents-come, visibility-comes}
+use Rattle.put_item.proofs.ItemRows.{digests-in, extents-in, visibility-in}
 use Rattle.put_form.specs.declared.Frame.{Frame}
 use Rattle.put_form.specs.Emit.{Moderate, header_for, Plan, form_in, Emitted}
 
@@ -67,16 +67,16 @@ module _ (source : Source) where
     bytes-many = ap (λ (n : ℕ). sh.record_size * n) many
 
     pub digests-are : s.digests ≡ length (digest_bytes rows)
-    digests-are = ap (λ (x : Sizes). x.digests) m ∙ sym (digests-come source numbers l)
+    digests-are = ap (λ (x : Sizes). x.digests) m ∙ sym (digests-in source numbers l)
 
     size_is : s.digests + lacking s.digests ≡ length (digest_section rows)
     size_is = ap (λ (n : ℕ). n + lacking n) digests-are ∙ sym (section-long rows)
 
     extents-are : s.extents ≡ extent_total rows
-    extents-are = ap (λ (x : Sizes). x.extents) m ∙ sym (extents-come source numbers l)
+    extents-are = ap (λ (x : Sizes). x.extents) m ∙ sym (extents-in source numbers l)
 
     visibility-is : s.visibility ≡ largest_visibility rows
-    visibility-is = ap (λ (x : Sizes). x.visibility) m ∙ sym (visibility-comes source numbers)
+    visibility-is = ap (λ (x : Sizes). x.visibility) m ∙ sym (visibility-in source numbers)
 
     header-same : header_for sh frame.heading (length bloom) (length numbers) s ≡ form_header sh frame.heading (length bloom) rows
     unfolding header_for form_header

@@ -27,8 +27,8 @@ use Rattle.key.specs.Items.{record_span, entry_span, item_hash, item_span, item_
 use Rattle.key.specs.ItemOrder.{item_leq}
 use Rattle.key.specs.Lent.{Readable}
 use Rattle.put_item.specs.declared.Source.{Source}
-use Rattle.put_item.specs.Sources.{entry_in, row_in, rows_in, CountedIn, LineIn, LinesIn, measured_in}
-use Rattle.put_item.specs.Lines.{record_entry, item_entry, item_extents, item_total, extents_of_entry, row_of_entry, item_row, item_rows, Line, record_of_entry, measured}
+use Rattle.put_item.specs.Sources.{rows_in, CountedIn, LinesIn, measured_in}
+use Rattle.put_item.specs.Lines.{record_entry, item_entry, item_extents, item_total, extents_of_entry, row_of_entry, item_row, item_rows, Counted, Line, Lines, record_of_entry, measured}
 
 -- ---- an item's key is its row's
 
@@ -165,28 +165,47 @@ unfolding Each
 each-then P Q f [] e = tt
 each-then P Q f (k ∷ ks) e = (f k e.0, each-then P Q f ks e.1)
 
-module _ (source : Source) where
-  pub counted-lines : (numbers : List ℕ) → LinesIn source numbers → Each (CountedIn source) numbers
-  counted-lines numbers l = each-then (LineIn source) (CountedIn source) (λ k h. h.counted) numbers l
+module _ (kind : Kind) (bytes list extents : List ℕ) where
+  pub counted-lines : (numbers : List ℕ) → Lines kind bytes list extents numbers → Each (Counted kind bytes list) numbers
+  counted-lines numbers l = each-then (Line kind bytes list extents) (Counted kind bytes list) (λ k h. h.counted) numbers l
 
-  pub read-lines : (numbers : List ℕ) → LinesIn source numbers → Each (Readable source.items) numbers
-  read-lines numbers l = each-then (LineIn source) (Readable source.items) (λ k h. h.counted.item) numbers l
+  pub read-lines : (numbers : List ℕ) → Lines kind bytes list extents numbers → Each (Item kind bytes list) numbers
+  read-lines numbers l = each-then (Line kind bytes list extents) (Item kind bytes list) (λ k h. h.counted.item) numbers l
 
-  pub digests-come : (numbers : List ℕ) → LinesIn source numbers
-      → length (digest_bytes (rows_in source numbers)) ≡ (measured_in source numbers).digests
+  pub digests-come : (numbers : List ℕ) → Lines kind bytes list extents numbers
+      → length (digest_bytes (item_rows kind bytes list extents numbers)) ≡ (measured kind bytes list numbers).digests
   unfolding Each digest_bytes measured
   digests-come [] l = refl
   digests-come (k ∷ ks) l =
-      length-append (row_in source k).key.digest (digest_bytes (rows_in source ks))
-      ∙ omega (arith, row-digest-length source.items.kind source.items.bytes.now source.items.list.now source.extents.now k l.0.counted.item, digests-come ks l.1)
+      length-append (item_row kind bytes list extents k).key.digest (digest_bytes (item_rows kind bytes list extents ks))
+      ∙ omega (arith, row-digest-length kind bytes list extents k l.0.counted.item, digests-come ks l.1)
 
-  pub extents-come : (numbers : List ℕ) → LinesIn source numbers
-      → extent_total (rows_in source numbers) ≡ (measured_in source numbers).extents
+  pub extents-come : (numbers : List ℕ) → Lines kind bytes list extents numbers
+      → extent_total (item_rows kind bytes list extents numbers) ≡ (measured kind bytes list numbers).extents
   unfolding Each extent_total measured
   extents-come [] l = refl
-  extents-come (k ∷ ks) l = omega (arith, row_count source.items.kind source.items.bytes.now source.items.list.now source.extents.now k l.0, extents-come ks l.1)
+  extents-come (k ∷ ks) l = omega (arith, row_count kind bytes list extents k l.0, extents-come ks l.1)
 
-  pub visibility-comes : (numbers : List ℕ) → largest_visibility (rows_in source numbers) ≡ (measured_in source numbers).visibility
+  pub visibility-comes : (numbers : List ℕ) → largest_visibility (item_rows kind bytes list extents numbers) ≡ (measured kind bytes list numbers).visibility
   unfolding largest_visibility measured item_row row_of_entry
   visibility-comes [] = refl
-  visibility-comes (k ∷ ks) = ap (max (entry_in source k).visibility) (visibility-comes ks)
+  visibility-comes (k ∷ ks) = ap (max (item_entry kind bytes list k).visibility) (visibility-comes ks)
+
+-- the same of a source
+module _ (source : Source) where
+  pub counted-in : (numbers : List ℕ) → LinesIn source numbers → Each (CountedIn source) numbers
+  counted-in numbers l = counted-lines source.items.kind source.items.bytes.now source.items.list.now source.extents.now numbers l
+
+  pub read-in : (numbers : List ℕ) → LinesIn source numbers → Each (Readable source.items) numbers
+  read-in numbers l = read-lines source.items.kind source.items.bytes.now source.items.list.now source.extents.now numbers l
+
+  pub digests-in : (numbers : List ℕ) → LinesIn source numbers
+      → length (digest_bytes (rows_in source numbers)) ≡ (measured_in source numbers).digests
+  digests-in numbers l = digests-come source.items.kind source.items.bytes.now source.items.list.now source.extents.now numbers l
+
+  pub extents-in : (numbers : List ℕ) → LinesIn source numbers
+      → extent_total (rows_in source numbers) ≡ (measured_in source numbers).extents
+  extents-in numbers l = extents-come source.items.kind source.items.bytes.now source.items.list.now source.extents.now numbers l
+
+  pub visibility-in : (numbers : List ℕ) → largest_visibility (rows_in source numbers) ≡ (measured_in source numbers).visibility
+  visibility-in numbers = visibility-comes source.items.kind source.items.bytes.now source.items.list.now source.extents.now numbers

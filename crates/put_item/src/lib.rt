@@ -117,7 +117,7 @@ pub struct Sizes {
 // Items that are written, with the flat list of their extents: for records it is not read, since these have theirs in the segment.
 #[derive(Clone, Copy)]
 pub struct Source<'a> {
-    pub items: Items<'a>,
+    pub items: Items<'a, 'a>,
     pub extents: &'a [u64],
 }
 

@@ -19,12 +19,14 @@ use segment::extent::Extent;
 use segment::header::Header;
 use segment::shape::Shape;
 
-// A run of bytes, copied to a place: one call of the library, in a function for what it says of the place.
+// A run of bytes, copied to a place. Not by the library's copying, for which an archive for C would ask `memmove` from outside.
 pub fn copy_bytes(from: &[u8], at: usize, out: &mut [u8])
     requires { at + length from.now ≤ length out.old }
     ensures { out.new ≡ put out.old at from.now }
 {
-    out[at..at + from.len()].copy_from_slice(from);
+    for (i, &byte) in from.iter().enumerate() {
+        out[at + i] = byte;
+    }
 }
 
 // The records. Each one's digest and extents lie behind those of the records before it.

@@ -1,7 +1,7 @@
 -- What a list of pairs says once the pair in front has been looked at, and what is known of a table.
 -- Assumes nothing.
 use Prim.Native.Nat.{ℕ, suc, ◌+◌, ◌-◌, ◌≤◌, ◌<◌}
-use mathlib.Core.Path.{◌≡◌, refl, sym, ◌∙◌}
+use mathlib.Core.Path.{◌≡◌, refl, sym, ap, ◌∙◌}
 use mathlib.Core.Bool.{true, false, ◌&&◌, ◌||◌, not, false≢true}
 use mathlib.Core.Logic.{⊎_elim}
 use mathlib.Core.List.{List, [], ◌∷◌, ◌++◌}
@@ -12,6 +12,7 @@ use borrow.Author.Tests.{leb-true}
 use lib.Dec.{leb, eqb}
 use lib.ListN.{length, get_or, take, drop, set, replicate, length-append}
 use lib.Seq.{take_all, take-suc, set_at, take_at, length-take-le, append_snoc}
+use Rattle.std.proofs.lemmas.List.{drop-replicate}
 use Rattle.lists.proofs.Tests.{tests, and-iff, or-either, leb-iff, ltb_iff, eqb-iff}
 use Rattle.table.specs.Table.{stands, good_pair, good_pairs, good_table, allows, by_value}
 
@@ -132,3 +133,11 @@ module _ (p numbers : List ℕ) (e : numbers ≡ by_value p) where
 
     pub front_long : count ≡ length (take count numbers)
     front_long = sym (length-take-le count numbers in-front)
+
+-- a list put over the front of 32 zeros is the table by value, and so is what is taken of it in its whole length
+pub put_over : (p q : List ℕ) → q ≡ p → q ++ drop (length p) (replicate 32 0) ≡ by_value p
+unfolding by_value
+put_over p q e = rw e (ap (λ (t : List ℕ). p ++ t) (drop-replicate (length p) 32 0))
+
+pub put_taken : (p q : List ℕ) → q ≡ take (length p) p → q ++ drop (length p) (replicate 32 0) ≡ by_value p
+put_taken p q e = put_over p q (e ∙ take_all (length p) p (le_refl _))

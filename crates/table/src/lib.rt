@@ -2,7 +2,7 @@
 // by value, an array of 32 numbers. Everyone asks it one question: does it allow this hash id with this length.
 #![tactic(auto)]
 
-ghost use Rattle.std.specs.Prelude.{◌≡◌, ◌≤◌, ℕ, List, true, false, length, take};
+ghost use Rattle.std.specs.Prelude.{◌≡◌, ◌≤◌, ℕ, List, true, false, length};
 ghost use Rattle.std.specs.Option.{MatchOption};
 ghost use Rattle.table.specs.Table.{stands, good_pair, good_pairs, good_table, allows, by_value};
 
@@ -53,6 +53,7 @@ pub fn good(pairs: &[u64]) -> bool
 
 // The table by value: a list copied to the front of an array, with zeros after it. An array has no length of its own, and the
 // caller lends as many of its numbers as the list has.
+#[tactic(auto, using(crate::proofs::Pairs::put_over, crate::proofs::Pairs::put_taken))]
 pub fn copied(pairs: &[u64]) -> [u64; 32]
     requires { length pairs.now ≤ 32 }
     ensures { result ≡ by_value pairs.now }
@@ -75,46 +76,44 @@ pub fn allows(pairs: &[u64], hash: u64, len: u64) -> bool
     false
 }
 
-// The pairs of a list that is a table, by value. Contracts see it as the list.
+// The pairs of a list that is a table, as they are lent. Contracts see it as the list. It holds no array of its own: a struct with one, in an
+// `Option` besides, is moved three times before it stands where it is used, and each call would pay for that (docs/PERFORMANCE.md). Who
+// wants the table by value has it by `copied`.
 #[derive(Drop)]
-pub struct Table {
-    numbers: [u64; 32],
-    count: usize,
+pub struct Table<'a> {
+    pairs: &'a [u64],
 }
 
-impl Model for Table {
+impl<'a> Model for Table<'a> {
     ghost Value = { List ℕ };
 
-    ghost view = { λ t. take t.count t.numbers };
+    ghost view = { λ t. t.pairs.now };
 
-    ghost invariant = { λ t. (t.count ≤ 32) × (good_table (take t.count t.numbers) ≡ true) };
+    ghost invariant = { λ t. good_table t.pairs.now ≡ true };
 }
 
-impl Table {
+impl<'a> Table<'a> {
     // None of a list that is no table.
-    pub fn new(pairs: &[u64]) -> Option<Table>
+    pub fn new(pairs: &'a [u64]) -> Option<Table<'a>>
         ensures { MatchOption result (good_table pairs.now ≡ false) (λ t. (t ≡ pairs.now) × (good_table pairs.now ≡ true)) }
     {
         if !good(pairs) {
             return None;
         }
-        Some(Table {
-            numbers: copied(pairs),
-            count: pairs.len(),
-        })
+        Some(Table { pairs })
     }
 
-    pub fn pairs(&self) -> &[u64]
+    pub fn pairs(&self) -> &'a [u64]
         ensures same { result.now ≡ self.now }
         ensures good { good_table self.now ≡ true }
     {
-        &self.numbers[..self.count]
+        self.pairs
     }
 
     // Whether the table allows a hash id with a length.
     pub fn allows(&self, hash: u64, len: u64) -> bool
         ensures { result ≡ allows self.now hash len }
     {
-        allows(self.pairs(), hash, len)
+        allows(self.pairs, hash, len)
     }
 }

@@ -66,5 +66,6 @@ pub fn tidy_by(by: Engine, pairs: &[u64], seg: &[u8], out: &mut [u8]) -> Result<
     let Some(table) = Table::new(pairs) else {
         return Err(Refusal(Rule::Table, 0));
     };
-    tidy_under(by, table.pairs(), seg, out)
+    let numbers = table::copied(table.pairs());
+    tidy_under(by, &numbers[..pairs.len()], seg, out)
 }

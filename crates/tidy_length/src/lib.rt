@@ -69,5 +69,6 @@ pub fn tidy_length_by(by: Engine, pairs: &[u64], seg: &[u8]) -> Result<u64, Refu
     let Some(table) = Table::new(pairs) else {
         return Err(Refusal(Rule::Table, 0));
     };
-    length_under(by, table.pairs(), seg)
+    let numbers = table::copied(table.pairs());
+    length_under(by, &numbers[..pairs.len()], seg)
 }

@@ -69,5 +69,15 @@ pub fn write_by(
     let Some(table) = Table::new(pairs) else {
         return Err(Refusal(Rule::Table, 0));
     };
-    write_under(by, table.pairs(), t, bloom, entries, digests, extents, out)
+    let numbers = table::copied(table.pairs());
+    write_under(
+        by,
+        &numbers[..pairs.len()],
+        t,
+        bloom,
+        entries,
+        digests,
+        extents,
+        out,
+    )
 }

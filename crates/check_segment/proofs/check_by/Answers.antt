@@ -1,8 +1,10 @@
 -- `check_segment::check_by` meets its contract: the table, and then the segment under the copied table.
-use mathlib.Core.Path.{◌≡◌}
+use mathlib.Core.Path.{◌≡◌, ap, ◌∙◌}
 use mathlib.Core.Bool.{true, false}
+use native.Mathlib.Omega.{arith}
 use borrow.Author.Rules.{rules}
-use Rattle.table.specs.Table.{good_table}
+use Rattle.table.specs.Table.{good_table, by_value}
+use Rattle.table.proofs.Pairs.{sized, in-front, front-is, front_long}
 use Rattle.check_segment.proofs.SegmentOrder.{table-bad, table-good}
 use Rattle.check_segment.proofs.check_by.Goals as goal
 
@@ -11,8 +13,27 @@ returns-in_default c =
     let bad : good_table c.args.pairs.now ≡ false = search rules in
     table-bad _ _ bad
 
+pub copied-numbers-requires : goal.copied-numbers-requires
+copied-numbers-requires c =
+    let good : good_table c.args.pairs.now ≡ true = search rules in
+    let same : c.pairs.result.now ≡ c.args.pairs.now = search rules in
+    rw same (sized _ good)
+
+pub slice_bounds-numbers-end : goal.slice_bounds-numbers-end
+slice_bounds-numbers-end c =
+    let same : c.pairs.result.now ≡ c.args.pairs.now = search rules in
+    let front : c.copied-numbers.result ≡ by_value c.args.pairs.now = c.copied-numbers.ensures ∙ ap by_value same in
+    in-front _ _ front _ (omega arith)
+
+pub slice_bounds-check_segment-end : goal.slice_bounds-check_segment-end
+slice_bounds-check_segment-end c =
+    let same : c.pairs.result.now ≡ c.args.pairs.now = search rules in
+    let front : c.copied-numbers.result ≡ by_value c.args.pairs.now = c.copied-numbers.ensures ∙ ap by_value same in
+    front_long _ _ front _ (omega arith)
+
 pub returns : goal.returns
 returns c =
     let good : good_table c.args.pairs.now ≡ true = search rules in
     let same : c.pairs.result.now ≡ c.args.pairs.now = search rules in
-    table-good _ _ _ good same c.check_segment.ensures
+    let front : c.copied-numbers.result ≡ by_value c.args.pairs.now = c.copied-numbers.ensures ∙ ap by_value same in
+    table-good _ _ _ good (front-is _ _ front) c.check_segment.ensures

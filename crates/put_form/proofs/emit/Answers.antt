@@ -3,7 +3,7 @@ use Prim.Native.Nat.{ℕ, ◌≤◌}
 use mathlib.Core.Path.{◌≡◌, sym}
 use native.Mathlib.Omega.{arith}
 use lib.Seq.{length-take-le}
-use Rattle.put_item.proofs.ItemRows.{counted-lines}
+use Rattle.put_item.proofs.ItemRows.{counted-in}
 use Rattle.put_form.proofs.Planning.{moderate, bounded, form-header, form-long, plan, too_large, no_room, written, bloom-large}
 use Rattle.put_form.proofs.emit.Goals as goal
 
@@ -18,7 +18,7 @@ returns-then-size-gt-LIMIT c =
 pub measure-s-requires : goal.measure-s-requires
 measure-s-requires c =
     let a = c.args in
-    record { each = counted-lines a.source a.numbers.now c.requires.lines; numbers_len_bound = c.requires.numbers_len_bound }
+    record { each = counted-in a.source a.numbers.now c.requires.lines; numbers_len_bound = c.requires.numbers_len_bound }
 
 pub header_for-h-requires : goal.header_for-h-requires
 header_for-h-requires c =

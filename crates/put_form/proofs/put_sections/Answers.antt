@@ -1,6 +1,6 @@
 -- `put_form::put_sections` meets its contract: three stretches, one behind the other.
 use native.Mathlib.Omega.{arith}
-use Rattle.put_item.proofs.ItemRows.{read-lines}
+use Rattle.put_item.proofs.ItemRows.{read-in}
 use Rattle.put_form.specs.Emit.{sections_under}
 use Rattle.put_form.proofs.Stretches.{section-same, stretches}
 use Rattle.put_form.proofs.put_sections.Goals as goal
@@ -23,7 +23,7 @@ pub put_digest_section-requires : goal.put_digest_section-requires
 put_digest_section-requires c =
     let s = stretches _ c.requires.shaped _ c.args.source _ _ _ c.requires.plan in
     record {
-      each = read-lines c.args.source _ c.requires.lines;
+      each = read-in c.args.source _ c.requires.lines;
       used_value = s.filled;
       out_len = omega (arith, c.split_at_mut-digests.ensures.front_len);
     }
