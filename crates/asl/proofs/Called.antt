@@ -19,7 +19,7 @@ use Rattle.segment.specs.Tidy.{Outcome, outcome, tidy_length_of, tidy_of}
 use Rattle.segment.specs.Write.{Request, write_of}
 use Rattle.segment.proofs.StepSettled.{step-settled}
 use Rattle.table.specs.Table.{good_table, table_verdict}
-use Rattle.check_segment.proofs.SegmentOrder.{table-bad as check-bad}
+use Rattle.check_segment.proofs.SegmentOrder.{table_bad as check-bad}
 use Rattle.look_up.proofs.Finding.{table-bad as look-up-bad}
 use Rattle.tidy.proofs.TidyRead.{table-bad as tidy-bad}
 use Rattle.tidy_length.proofs.Summing.{table-bad as length-bad}

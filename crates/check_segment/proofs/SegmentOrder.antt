@@ -103,10 +103,10 @@ module _ (sh : Shape) (pairs s : List ℕ) where
     unfolding segment_verdict size_verdict
     sized h b e f = f ∙ ap (segment_rules sh pairs s) e ∙ simp tests
 
-pub table-bad : (pairs s : List ℕ) → good_table pairs ≡ false → check_answer (Err (refusal TableWrong 0)) ≡ check_of pairs s
+pub table_bad : (pairs s : List ℕ) → good_table pairs ≡ false → check_answer (Err (refusal TableWrong 0)) ≡ check_of pairs s
 unfolding check_of checked table_verdict
-table-bad pairs s e = rw e
+table_bad pairs s e = rw e
 
-pub table-good : (pairs part s : List ℕ) {v : Verdict} → good_table pairs ≡ true → part ≡ pairs → v ≡ segment_verdict v3 part s → check_answer v ≡ check_of pairs s
+pub table_good : (pairs part s : List ℕ) {v : Verdict} → good_table pairs ≡ true → part ≡ pairs → v ≡ segment_verdict v3 part s → check_answer v ≡ check_of pairs s
 unfolding check_of checked table_verdict
-table-good pairs part s e p f = rw e (ap check_answer (f ∙ ap (λ (q : List ℕ). segment_verdict v3 q s) p))
+table_good pairs part s e p f = rw e (ap check_answer (f ∙ ap (λ (q : List ℕ). segment_verdict v3 q s) p))

@@ -71,6 +71,7 @@ pub fn check_segment(by: Engine, pairs: &[u64], seg: &[u8]) -> Result<(), Refusa
     check_rules(by, Shape::V3, pairs, seg, Header::of(seg))
 }
 
+#[tactic(auto, using(table::proofs::Pairs::sized, table::proofs::Pairs::copied_whole, table::proofs::Pairs::copied_fits, table::proofs::Pairs::copied_part, table::proofs::Pairs::copied_front, crate::proofs::SegmentOrder::table_bad, crate::proofs::SegmentOrder::table_good))]
 pub fn check_by(by: Engine, pairs: &[u64], seg: &[u8]) -> Result<(), Refusal>
     ensures { check_answer result ≡ check_of pairs.now seg.now }
 {

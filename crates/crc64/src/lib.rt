@@ -35,7 +35,7 @@ fn eat(register: u64, b: u8) -> u64
 }
 
 // The register after the bytes of s, from the register that stood before them.
-#[tactic(auto, using(crate::proofs::CrcLaws::run_more, crate::proofs::CrcLaws::run_none))]
+#[tactic(auto, using(crate::proofs::CrcLaws::run_more, crate::proofs::CrcLaws::run_none, crate::proofs::CrcLaws::run_whole))]
 pub fn crc64_plain_on(register: u64, s: &[u8]) -> u64
     ensures { result ≡ run register s.now }
 {

@@ -12,8 +12,8 @@ ghost use Rattle.crc64_fast.specs.Word.{packed};
 // The length in bytes from which the tables are used. They pay from somewhat less on, if their code is in the caches (docs/PERFORMANCE.md, "The checksum").
 const PAYS: usize = 640;
 
-// Eight bytes as one number, the first lowest. By shifts: the library's `from_le_bytes` multiplies, and what goes into the register is a
-// sum without carry.
+// Eight bytes as one number, the first lowest. By shifts: what the library's `from_le_bytes` gives is said by products and sums, and
+// what goes into the register is a sum without carry.
 fn word(s: &[u8]) -> u64
     requires { length s.now ≡ 8 }
     ensures { result ≡ packed (λ k. get_or s.now k 0) 8 }

@@ -13,7 +13,7 @@ use std::cmp::Ordering;
 // So many bytes are told one by one: most keys part among them, and the library looks at many bytes before it tells.
 const NEAR: usize = 16;
 
-// The library's comparison. Never inlined: without it that of the near bytes is short enough to stand in those who compare keys.
+// The library's comparison. Never inlined, so that what compares the near bytes stays short enough to be inlined where keys are compared.
 #[inline(never)]
 fn compare_far(a: &[u8], b: &[u8]) -> Ordering
     ensures { result ≡ lex a.now b.now }

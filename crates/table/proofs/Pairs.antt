@@ -10,7 +10,7 @@ use native.Mathlib.Numerals.{add-one}
 use native.Mathlib.Omega.{arith}
 use borrow.Author.Tests.{leb-true}
 use lib.Dec.{leb, eqb}
-use lib.ListN.{length, get_or, take, drop, set, replicate, length-append}
+use lib.ListN.{length, get_or, take, drop, set, replicate, length-append, length-replicate}
 use lib.Seq.{take_all, take-suc, set_at, take_at, length-take-le, append_snoc}
 use Rattle.std.proofs.lemmas.List.{drop-replicate}
 use Rattle.lists.proofs.Tests.{tests, and-iff, or-either, leb-iff, ltb_iff, eqb-iff}
@@ -125,6 +125,23 @@ module _ (p numbers : List ℕ) (e : numbers ≡ by_value p) where
   pub front-is : take (length p) numbers ≡ p
   unfolding by_value
   front-is = rw e (take_at p (replicate (32 - length p) 0) (length p) refl)
+
+  -- the same, of the list that was copied and of as many numbers as it has, however both are said
+  pub copied_front : (q : List ℕ) (count : ℕ) → p ≡ q → count ≡ length q → take count numbers ≡ q
+  copied_front q count f g = rw (g, ← f) front-is
+
+  module _ (h : length p ≤ 32) where
+    pub copied_whole : 32 ≡ length numbers
+    unfolding by_value
+    copied_whole = rw (e, length-append, length-replicate) (omega arith)
+
+    -- any number of them up to 32 can be lent: which of these are the pairs, `copied_front` alone tells
+    module _ (count : ℕ) (l : count ≤ 32) where
+      pub copied_fits : count ≤ length numbers
+      copied_fits = omega (arith, copied_whole)
+
+      pub copied_part : count ≡ length (take count numbers)
+      copied_part = sym (length-take-le count numbers copied_fits)
 
   module _ (count : ℕ) (h : count ≤ length p) where
     pub in-front : count ≤ length numbers

@@ -77,8 +77,8 @@ pub fn allows(pairs: &[u64], hash: u64, len: u64) -> bool
 }
 
 // The pairs of a list that is a table, as they are lent. Contracts see it as the list. It holds no array of its own: a struct with one, in an
-// `Option` besides, is moved three times before it stands where it is used, and each call would pay for that (docs/PERFORMANCE.md). Who
-// wants the table by value has it by `copied`.
+// `Option` besides, is moved three times more before it stands where it is used, and each call would pay for that (docs/PERFORMANCE.md).
+// Who wants the table by value has it by `copied`.
 #[derive(Drop)]
 pub struct Table<'a> {
     pairs: &'a [u64],
