@@ -135,7 +135,7 @@ module _ (p numbers : List ℕ) (e : numbers ≡ by_value p) where
     unfolding by_value
     copied_whole = rw (e, length-append, length-replicate) (omega arith)
 
-    -- any number of them up to 32 can be lent: which of these are the pairs, `copied_front` alone tells
+    -- any number of them up to 32 can be lent; which of these are the pairs is said above
     module _ (count : ℕ) (l : count ≤ 32) where
       pub copied_fits : count ≤ length numbers
       copied_fits = omega (arith, copied_whole)
