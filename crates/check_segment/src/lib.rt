@@ -15,7 +15,7 @@ use key::Items;
 use segment::footer::Footer;
 use segment::header::Header;
 use segment::shape::Shape;
-use table::Table;
+use table::LentTable;
 
 // A segment's length at the least and at the most: a header and a footer; one GiB.
 const LEAST: usize = Header::SIZE + Footer::SIZE;
@@ -75,7 +75,7 @@ pub fn check_segment(by: Engine, pairs: &[u64], seg: &[u8]) -> Result<(), Refusa
 pub fn check_by(by: Engine, pairs: &[u64], seg: &[u8]) -> Result<(), Refusal>
     ensures { check_answer result ≡ check_of pairs.now seg.now }
 {
-    let Some(table) = Table::new(pairs) else {
+    let Some(table) = LentTable::new(pairs) else {
         return Err(Refusal(Rule::Table, 0));
     };
     let numbers = table::copied(table.pairs());

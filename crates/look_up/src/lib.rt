@@ -19,7 +19,7 @@ use segment::header::Header;
 use segment::record;
 use segment::record::Record;
 use segment::shape::Shape;
-use table::Table;
+use table::LentTable;
 
 fn source(imported: u8, domain: u32) -> Option<u32>
     ensures { result ≡ source_of imported domain }
@@ -93,7 +93,7 @@ pub fn look_up_by(
 ) -> Result<Found, Refusal>
     ensures { found_answer result ≡ look_up_of pairs.now seg.now (key_from hash digest.now) }
 {
-    let Some(table) = Table::new(pairs) else {
+    let Some(table) = LentTable::new(pairs) else {
         return Err(Refusal(Rule::Table, 0));
     };
     let numbers = table::copied(table.pairs());

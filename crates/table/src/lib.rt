@@ -2,7 +2,7 @@
 // by value, an array of 32 numbers. Everyone asks it one question: does it allow this hash id with this length.
 #![tactic(auto)]
 
-ghost use Rattle.std.specs.Prelude.{◌≡◌, ◌≤◌, ℕ, List, true, false, length};
+ghost use Rattle.std.specs.Prelude.{◌≡◌, ◌≤◌, ℕ, List, true, false, length, take};
 ghost use Rattle.std.specs.Option.{MatchOption};
 ghost use Rattle.table.specs.Table.{stands, good_pair, good_pairs, good_table, allows, by_value};
 
@@ -78,13 +78,13 @@ pub fn allows(pairs: &[u64], hash: u64, len: u64) -> bool
 
 // The pairs of a list that is a table, as they are lent. Contracts see it as the list. It holds no array of its own: a struct with one, in an
 // `Option` besides, is moved three times more before it stands where it is used, and each call would pay for that (docs/PERFORMANCE.md).
-// Who wants the table by value has it by `copied`.
+// A service, which wants the table by value, has it by `copied`.
 #[derive(Drop)]
-pub struct Table<'a> {
+pub struct LentTable<'a> {
     pairs: &'a [u64],
 }
 
-impl<'a> Model for Table<'a> {
+impl<'a> Model for LentTable<'a> {
     ghost Value = { List ℕ };
 
     ghost view = { λ t. t.pairs.now };
@@ -92,15 +92,15 @@ impl<'a> Model for Table<'a> {
     ghost invariant = { λ t. good_table t.pairs.now ≡ true };
 }
 
-impl<'a> Table<'a> {
+impl<'a> LentTable<'a> {
     // None of a list that is no table.
-    pub fn new(pairs: &'a [u64]) -> Option<Table<'a>>
+    pub fn new(pairs: &'a [u64]) -> Option<LentTable<'a>>
         ensures { MatchOption result (good_table pairs.now ≡ false) (λ t. (t ≡ pairs.now) × (good_table pairs.now ≡ true)) }
     {
         if !good(pairs) {
             return None;
         }
-        Some(Table { pairs })
+        Some(LentTable { pairs })
     }
 
     pub fn pairs(&self) -> &'a [u64]
@@ -115,5 +115,83 @@ impl<'a> Table<'a> {
         ensures { result ≡ allows self.now hash len }
     {
         allows(self.pairs, hash, len)
+    }
+}
+
+// The same by value, for whoever keeps a table longer than the list lives that it was made of. Contracts see it as the list.
+#[derive(Drop)]
+pub struct Table {
+    numbers: [u64; 32],
+    count: usize,
+}
+
+impl Model for Table {
+    ghost Value = { List ℕ };
+
+    ghost view = { λ t. take t.count t.numbers };
+
+    ghost invariant = { λ t. (t.count ≤ 32) × (good_table (take t.count t.numbers) ≡ true) };
+}
+
+impl Table {
+    // None of a list that is no table.
+    #[tactic(auto, using(crate::proofs::Pairs::sized, crate::proofs::Pairs::copied_front))]
+    pub fn new(pairs: &[u64]) -> Option<Table>
+        ensures { MatchOption result (good_table pairs.now ≡ false) (λ t. (t ≡ pairs.now) × (good_table pairs.now ≡ true)) }
+    {
+        let lent = LentTable::new(pairs)?;
+        Some(Table {
+            numbers: copied(lent.pairs()),
+            count: pairs.len(),
+        })
+    }
+
+    pub fn pairs(&self) -> &[u64]
+        ensures same { result.now ≡ self.now }
+        ensures good { good_table self.now ≡ true }
+    {
+        &self.numbers[..self.count]
+    }
+
+    // Whether the table allows a hash id with a length.
+    pub fn allows(&self, hash: u64, len: u64) -> bool
+        ensures { result ≡ allows self.now hash len }
+    {
+        allows(self.pairs(), hash, len)
+    }
+}
+
+#[cfg(test)]
+mod tests {
+    use super::Table;
+
+    // The list is gone when the table is handed on.
+    fn of_two_pairs() -> Option<Table> {
+        let pairs = [5, 4, 9, 32];
+        Table::new(&pairs)
+    }
+
+    #[test]
+    fn a_table_by_value_is_kept_longer_than_its_list(rt: HostRuntime) {
+        let Some(table) = of_two_pairs() else {
+            assert!(rt; false, "two pairs are a table");
+            return;
+        };
+        assert_eq!(rt; table.pairs(), &[5, 4, 9, 32][..]);
+        assert!(rt; table.allows(9, 32));
+        assert!(rt; !table.allows(9, 4), "4 is the length of 5");
+    }
+
+    #[test]
+    fn a_list_that_is_no_table_gives_none(rt: HostRuntime) {
+        for list in [
+            &[][..],
+            &[5][..],
+            &[5, 0][..],
+            &[5, 4, 5, 32][..],
+            &[0; 34][..],
+        ] {
+            assert!(rt; Table::new(list).is_none());
+        }
     }
 }

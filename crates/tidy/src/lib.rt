@@ -18,7 +18,7 @@ use put_item::Source;
 use segment::footer::Footer;
 use segment::header::{Header, Heading};
 use segment::shape::Shape;
-use table::Table;
+use table::LentTable;
 
 // The numbers of a segment that its tidy form keeps.
 fn heading_of(seg: &[u8], h: Header) -> Heading
@@ -63,7 +63,7 @@ fn tidy_under(by: Engine, pairs: &[u64], seg: &[u8], out: &mut [u8]) -> Result<u
 pub fn tidy_by(by: Engine, pairs: &[u64], seg: &[u8], out: &mut [u8]) -> Result<u64, Refusal>
     ensures { outcome result out.new ≡ tidy_of pairs.now seg.now out.old }
 {
-    let Some(table) = Table::new(pairs) else {
+    let Some(table) = LentTable::new(pairs) else {
         return Err(Refusal(Rule::Table, 0));
     };
     let numbers = table::copied(table.pairs());

@@ -17,7 +17,7 @@ use segment::footer::Footer;
 use segment::header::Header;
 use segment::record;
 use segment::shape::Shape;
-use table::Table;
+use table::LentTable;
 
 // What the records come to: how many bytes their digests are, and how many extents they have.
 #[derive(Clone, Copy)]
@@ -66,7 +66,7 @@ fn length_under(by: Engine, pairs: &[u64], seg: &[u8]) -> Result<u64, Refusal>
 pub fn tidy_length_by(by: Engine, pairs: &[u64], seg: &[u8]) -> Result<u64, Refusal>
     ensures { written_answer result ≡ tidy_length_of pairs.now seg.now }
 {
-    let Some(table) = Table::new(pairs) else {
+    let Some(table) = LentTable::new(pairs) else {
         return Err(Refusal(Rule::Table, 0));
     };
     let numbers = table::copied(table.pairs());

@@ -17,7 +17,7 @@ use put_item::Source;
 use segment::entry::Entry;
 use segment::header::Heading;
 use segment::shape::Shape;
-use table::Table;
+use table::LentTable;
 
 // Everything but the table.
 fn write_under(
@@ -66,7 +66,7 @@ pub fn write_by(
         (asked t bloom.now entries.now digests.now extents.now)
         out.old }
 {
-    let Some(table) = Table::new(pairs) else {
+    let Some(table) = LentTable::new(pairs) else {
         return Err(Refusal(Rule::Table, 0));
     };
     let numbers = table::copied(table.pairs());
