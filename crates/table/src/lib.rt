@@ -118,7 +118,8 @@ impl<'a> LentTable<'a> {
     }
 }
 
-// The same by value, for whoever keeps a table longer than the list lives that it was made of. Contracts see it as the list.
+// The same by value, for a caller that keeps the table when its list is gone. Contracts see it as the list. `c_table::Lent` holds numbers and
+// their count, too, but its numbers may be no table: what a C caller lends is judged by the services.
 #[derive(Drop)]
 pub struct Table {
     numbers: [u64; 32],
